@@ -1,0 +1,4 @@
+pub mod Loops
+pub mod RowLoops
+pub mod Changed
+pub mod Sums

@@ -1,0 +1,10 @@
+pub mod Row
+pub mod Judged
+pub mod Divide
+pub mod Table
+pub mod Smallest
+pub mod Picked
+pub mod Requires
+pub mod Values
+pub mod Tables
+pub mod Smaller

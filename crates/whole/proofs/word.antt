@@ -1,0 +1,2 @@
+-- What the proofs on words share.
+mod Mask

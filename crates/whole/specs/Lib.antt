@@ -1,0 +1,9 @@
+pub mod Cases
+pub mod Difference
+pub mod Ring
+pub mod Identity
+pub mod Reading
+pub mod Size
+pub mod Division
+pub mod Word
+pub mod Bytes
