@@ -1,4 +1,5 @@
 pub mod Loops
+pub mod Judging
 pub mod RowLoops
 pub mod Changed
 pub mod Sums

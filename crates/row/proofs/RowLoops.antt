@@ -1,5 +1,5 @@
 -- Laws of loops over the rows of a table: g of each row of w numbers in place, leaving at the first row of which not all is p.
-use mathlib.Core.Path.{_≡_, refl, sym, _∙_, ap}
+use mathlib.Core.Path.{_≡_, refl, sym, _∙_}
 use mathlib.Core.Bool.{Bool, true, false}
 use mathlib.Core.List.{List, _++_, append-assoc}
 use Prim.Native.Nat.{ℕ, zero, suc, _+_, _-_, _*_, _≤_, _<_}
@@ -11,6 +11,21 @@ use lib.Seq.{take-all, take-at, drop-at, take-add, drop-drop, length-take-le}
 use Rattle.row.specs.Row.{all}
 use Rattle.row.specs.Table.{eachRow}
 use Rattle.row.specs.Tables.{all-append}
+
+-- One row fewer, in the words of a loop that counts up to n.
+pub row-less : (n j w : ℕ) → j < n → (n - j) * w ≡ w + (n - (j + 1)) * w
+row-less n j w h = let d : n - j ≡ suc (n - (j + 1)) = omega arith in rw d (omega (arith, suc-mul (n - (j + 1)) w))
+
+-- The row from a on is now l: what ends with it, and what follows.
+module _ (t l : List ℤ) (a w : ℕ) (room : a ≤ length t) (k : length l ≡ w) where
+  long-front : length (take a t ++ l) ≡ a + w
+  long-front = length-append (take a t) l ∙ simp (length-take-le a t room, k)
+
+  pub put-front : take (a + w) (take a t ++ (l ++ drop w (drop a t))) ≡ take a t ++ l
+  put-front = rw (← append-assoc (take a t) l (drop w (drop a t))) (take-at (take a t ++ l) (drop w (drop a t)) (a + w) long-front)
+
+  put-rest : drop (a + w) (take a t ++ (l ++ drop w (drop a t))) ≡ drop w (drop a t)
+  put-rest = rw (← append-assoc (take a t) l (drop w (drop a t))) (drop-at (take a t ++ l) (drop w (drop a t)) (a + w) long-front)
 
 -- n rows are left, from a on, of the table t; m is what the table is to be.
 pub record Worked (p : ℤ → Bool) (g : List ℤ → List ℤ) (w : ℕ) (m t : List ℤ) (a n : ℕ) : Type 0 where
@@ -49,13 +64,10 @@ module _ (p : ℤ → Bool) (g : List ℤ → List ℤ) (w : ℕ) (m : List ℤ)
         let T = take a t in
         let R = drop w (drop a t) in
         let room : a ≤ length t = omega (arith, W .long, suc-mul n w) in
-        let s : length (T ++ l) ≡ a + w = length-append T l ∙ simp (length-take-le a t room, k) in
-        let to : take (a + w) (T ++ (l ++ R)) ≡ T ++ l = rw (← append-assoc T l R) (take-at (T ++ l) R (a + w) s) in
-        let from : drop (a + w) (T ++ (l ++ R)) ≡ R = rw (← append-assoc T l R) (drop-at (T ++ l) R (a + w) s) in
         record {
-          long = omega (arith, length-append T (l ++ R), length-append l R, length-append T l, length-drop w (drop a t), length-drop a t, W .long, suc-mul n w);
-          is = rw (to, from, append-assoc T l, e) (W .is);
-          good = rw (to, all-append p T l, W .good) h;
+          long = omega (arith, length-append T (l ++ R), length-append l R, length-take-le a t room, length-drop w (drop a t), length-drop a t, W .long, suc-mul n w);
+          is = rw (put-front t l a w room k, put-rest t l a w room k, append-assoc T l, e) (W .is);
+          good = rw (put-front t l a w room k, all-append p T l, W .good) h;
         }
 
     -- The same in the words of a loop that counts n down; k is the part's length as the code computes it.

@@ -2,8 +2,8 @@
 use mathlib.Core.Path.{_≡_, refl, sym, ap, _∙_}
 use mathlib.Core.Bool.{true}
 use mathlib.Core.List.{List}
-use Prim.Native.Nat.{ℕ, suc, _+_, _-_, _*_, _≤_, _<_}
-use native.Mathlib.Nat.{zero-add, sub-zero, suc-mul}
+use Prim.Native.Nat.{ℕ, _+_, _-_, _*_, _≤_, _<_}
+use native.Mathlib.Nat.{zero-add, sub-zero}
 use native.Mathlib.Numerals.{add-one}
 use native.Mathlib.Omega.{arith}
 use borrow.Author.Tests.{leb-true, le-leb, ltb-true, ltb-false}
@@ -18,6 +18,7 @@ use Rattle.row.specs.Values.{at-plus, length-plus, plus-zero}
 use Rattle.row.specs.Table.{addRows, constants, replaced}
 use Rattle.row.specs.Tables.{all-at, all-of, all-both, all-take, all-drop, length-constants, constants-low, constants-high, zeros-in-limit}
 use Rattle.row.specs.Requires.{allWithin, Addable, Replaceable}
+use Rattle.row.proofs.RowLoops.{row-less}
 
 -- ---- sizes
 module _ (m : ℕ) (r : List ℤ) where
@@ -69,7 +70,7 @@ module _ {fs t r s : List ℤ} {a j : ℕ} (A : Added fs t r s a j) where
 
   module _ (h : j < length fs) where
     one-more : (length fs - j) * length r ≡ length r + (length fs - (j + 1)) * length r
-    one-more = let d : length fs - j ≡ suc (length fs - (j + 1)) = omega arith in rw d (omega (arith, suc-mul (length fs - (j + 1)) (length r)))
+    one-more = row-less (length fs) j (length r) h
 
     pub added-room : a + length r ≤ length t
     added-room = omega (arith, one-more)

@@ -63,6 +63,10 @@ pub rows-map : (P Q : List ℤ → Type 0) → ((r : List ℤ) → P r → Q r) 
 rows-map P Q h w zero t p = tt
 rows-map P Q h w (suc v) t p = (h (take w t) (p .0), rows-map P Q h w v (drop w t) (p .1))
 
+pub rows-both : (P Q R : List ℤ → Type 0) → ((r : List ℤ) → P r → Q r → R r) → (w v : ℕ) (t : List ℤ) → Rows P w v t → Rows Q w v t → Rows R w v t
+rows-both P Q R h w zero t p q = tt
+rows-both P Q R h w (suc v) t p q = (h (take w t) (p .0) (q .0), rows-both P Q R h w v (drop w t) (p .1) (q .1))
+
 pub rows-fewer : (P : List ℤ → Type 0) (w m n : ℕ) (t : List ℤ) → n ≤ m → Rows P w m t → Rows P w n t
 rows-fewer P w m zero t h p = tt
 rows-fewer P w zero (suc n) t h p = absurd (omega arith)

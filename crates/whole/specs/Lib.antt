@@ -7,3 +7,4 @@ pub mod Size
 pub mod Division
 pub mod Word
 pub mod Bytes
+pub mod Place

@@ -1,0 +1,5 @@
+pub mod Requires
+pub mod Divided
+pub mod Views
+pub mod Heard
+pub mod Coincide
