@@ -1,4 +1,5 @@
--- Demand 3 for the public call: the first 32V numbers of an accepted table, and when and where a clash is heard.
+-- Demand 3 for the public call, of its definition `eliminated`, which the code's contract equates with what the code does. A call is
+-- `heard` with number, place, rounds, mask and the lent table at exit: number 0 is accepted, 9 past the limit, 10 a clash.
 use mathlib.Core.Path.{_≡_, refl, sym, _∙_, ap, subst}
 use mathlib.Core.Logic.{_≢_, _↔_}
 use mathlib.Core.List.{List, _++_}
@@ -7,7 +8,7 @@ use native.Mathlib.Nat.{mul-comm}
 use native.Mathlib.Omega.{arith}
 use lib.ListN.{length, take, drop}
 use lib.Seq.{take-at, drop-at}
-use lib.IntN.{ℤ}
+use lib.IntN.{ℤ, pos}
 use Rattle.whole.specs.Division.{rounded-down}
 use Rattle.whole.specs.Word.{firstSet, count}
 use Rattle.row.specs.Table.{start}
@@ -87,7 +88,9 @@ module _ (u w v : ℕ) (uw : u ≤ w) (es lent : List ℤ) where
       by (wideAt j) s e = let z : _≡_ {A = ℕ} 9 10 = cc in absurd (omega arith)
       by spentAll s e = let z : _≡_ {A = ℕ} 0 1 = cc in absurd (omega arith)
 
-  -- Where the checks pass, the table has room and no exponent passes the limit.
+  -- "where the sheet is well formed, the table has room and no exponent passes the limit", that is, where the answer is not 9 (which
+  -- the definition gives exactly when the work meets a number past the limit), "the sheet is refused as a clash exactly when no such
+  -- set exists".
   pub clash-exactly : Checked u w v es lent → ((i : ℕ) → answer ≢ refuses 9 i lent) → ((i : ℕ) × (answer ≡ refuses 10 i lent)) ↔ (Agreeing u v w m es → ⊥)
   clash-exactly c narrow = (λ h. clash-all u v w (clash-first (h .0) 0 0 lent (h .1)), λ none. by (verdict u w v es lent) refl none)
     where
@@ -96,6 +99,19 @@ module _ (u w v : ℕ) (uw : u ≤ w) (es lent : List ℤ) where
       by (clashAt i) s none = (i, checked-answer u w v es lent c ∙ ap (onVerdict lent) s)
       by (wideAt i) s none = absurd (narrow i (checked-answer u w v es lent c ∙ ap (onVerdict lent) s))
       by spentAll s none = absurd (subst Ended s (ended c))
+
+  -- .. and it is accepted exactly when such a set exists.
+  pub accepts-exactly : Checked u w v es lent → ((i : ℕ) → answer ≢ refuses 9 i lent) → ((k f : ℕ) × (t : List ℤ) × (answer ≡ heard 0 0 k f t)) ↔ Agreeing u v w m es
+  accepts-exactly c narrow = (λ h. agreeing (h .0) (h .1) (h .2) (h .3), λ some. by (verdict u w v es lent) refl some)
+    where
+      agreeing : (k f : ℕ) (t : List ℤ) → answer ≡ heard 0 0 k f t → Agreeing u v w m es
+      agreeing k f t h = record { units = _; agree = accepts-general k f t h .units .solves (λ j b. pos 0) }
+
+      by : (a : Verdict) → verdict u w v es lent ≡ a → Agreeing u v w m es → (k f : ℕ) × (t : List ℤ) × (answer ≡ heard 0 0 k f t)
+      by (accepted t k f) s some = (k, f, _, checked-answer u w v es lent c ∙ ap (onVerdict lent) s)
+      by (clashAt i) s some = absurd (clash-all u v w (clash-units u v w (c .gap) (promised c s)) some)
+      by (wideAt i) s some = absurd (narrow i (checked-answer u w v es lent c ∙ ap (onVerdict lent) s))
+      by spentAll s some = absurd (subst Ended s (ended c))
 
   -- ---- every call is answered
   abbrev Answered : Answer → Type 0
@@ -113,6 +129,7 @@ module _ (u w v : ℕ) (uw : u ≤ w) (es lent : List ℤ) where
 
 -- ---- document 01's columns: 24 unknowns, 8 bases, 32 numbers
 module _ (v : ℕ) (es lent : List ℤ) where
+  -- "Take an accepted sheet": the first 32V numbers are most general for the equations, and the rest of the table stays.
   pub accepted-call : (k f : ℕ) (t : List ℤ) → eliminated v es lent ≡ heard 0 0 k f t → Accepted 24 32 v es lent k f t
   unfolding eliminated
   accepted-call k f t h = accepts-general 24 32 v (omega arith) es lent k f t h
@@ -121,20 +138,27 @@ module _ (v : ℕ) (es lent : List ℤ) where
   pub rounds-call : (k f : ℕ) (t : List ℤ) → eliminated v es lent ≡ heard 0 0 k f t → k < 2 ^ 32
   rounds-call k f t h = let a = accepted-call k f t h in omega (arith, a .rounds, a .checked .unknowns)
 
+  -- "the line named is the first whose lines so far, itself included, have none"
   pub clash-call : (i k f : ℕ) (t : List ℤ) → eliminated v es lent ≡ heard 10 i k f t → FirstClash 24 v 32 (length es / 32) es i
   unfolding eliminated
   clash-call i k f t h = clash-first 24 32 v (omega arith) es lent i k f t h
 
+  -- "refused as a clash exactly when no such set exists", and accepted exactly when one does.
   pub clash-call-exactly : Checked 24 32 v es lent → ((i : ℕ) → eliminated v es lent ≢ refuses 9 i lent)
       → ((i : ℕ) × (eliminated v es lent ≡ refuses 10 i lent)) ↔ (Agreeing 24 v 32 (length es / 32) es → ⊥)
   unfolding eliminated
   clash-call-exactly c h = clash-exactly 24 32 v (omega arith) es lent c h
 
+  pub accepts-call-exactly : Checked 24 32 v es lent → ((i : ℕ) → eliminated v es lent ≢ refuses 9 i lent)
+      → ((k f : ℕ) × (t : List ℤ) × (eliminated v es lent ≡ heard 0 0 k f t)) ↔ Agreeing 24 v 32 (length es / 32) es
+  unfolding eliminated
+  accepts-call-exactly c h = accepts-exactly 24 32 v (omega arith) es lent c h
+
   pub answered-call : eliminated v es lent ≢ unanswered
   unfolding eliminated
   answered-call = answered 24 32 v (omega arith) es lent
 
-  -- Where two sets of units agree and differ, some unknown is free.
+  -- Where every equation agrees under each of two sets of units that differ, some unknown is free: no table is too special.
   pub special-call : (k f : ℕ) (t : List ℤ) → eliminated v es lent ≡ heard 0 0 k f t
       → (x y : Units) → Agree 24 v 32 (length es / 32) es x → Agree 24 v 32 (length es / 32) es y
       → (j b : ℕ) → j < v → 24 + b < 32 → x j b ≢ y j b → 0 < count v f

@@ -1,6 +1,7 @@
 -- What the elimination promises: the statements, for a reader. There are w columns, the first u of them for unknowns, of which v
--- are used; the others are constants. The constants are independent of each other, so that most is said of one of them, column c:
--- a row then has a value at an assignment of a number to each unknown, and a unit is such numbers taken together (Units.antt).
+-- are used; the others are constants, the base units. The bases are independent of each other, so most is said of one of them,
+-- column c: a row then has a value at an assignment of a number to each unknown, and a unit is such numbers taken together
+-- (Units.antt). Words in quotation marks are document 01's or demand 3's.
 use mathlib.Core.Path.{_≡_}
 use mathlib.Core.Bool.{true}
 use mathlib.Core.List.{List, [], _∷_}
@@ -68,7 +69,7 @@ pub record Clashing (u w m : ℕ) (es : List ℤ) (n : ℕ) : Type 0 where
   pub to : at-column < w
   pub none : (a : List ℤ) → Holds u at-column w (suc n) es a → ⊥
 
--- What each verdict says of m equations.
+-- What each verdict says of m equations. Past the limit nothing is promised; that fuel never runs out is shown in Fuel.antt.
 abbrev pub Promise : ℕ → ℕ → ℕ → ℕ → List ℤ → Verdict → Type 0
 Promise u v w m es (accepted t k f) = General u v w m es t f
 Promise u v w m es (clashAt n) = Clashing u w m es n

@@ -35,7 +35,8 @@ Agree u v w m es x = (b : ℕ) → u + b < w → Holds u (u + b) w m es (inBase 
 -- Demand 3, for the sets A of units under which all agree.
 pub record MostGeneral (u v w : ℕ) (A : Units → Type 0) (t : List ℤ) (f : ℕ) : Type 0 where
   -- "Give each free unknown any unit in the eight base units, exponents as large as you like, and the table yields units under which every
-  -- line agrees.
+  -- line agrees. A choice names a unit for every column; `same` says that only the free ones count. The row of a free unknown need
+  -- not be itself, so it need not yield the unit that is chosen for its column.
   pub solves : (x : Units) → A (yields u v w t x)
   -- Every set of units under which all lines agree comes out of the table this way,
   pub choice : Units → Units
