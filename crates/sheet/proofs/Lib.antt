@@ -1,0 +1,9 @@
+pub mod Places
+pub mod Rules
+pub mod Stores
+pub mod Tests
+pub mod Exponents
+pub mod Lowest
+pub mod Questions
+pub mod Calling
+pub mod Courses
