@@ -16,7 +16,7 @@ CAMEL = re.compile(r"\b[a-z]+[a-z0-9]*[A-Z]\w*\b")
 USE = re.compile(r"^\s*(?:pub |ghost )?use ([^\s{;]+?)\.\{(.*)\}")
 # Names that would fall together: with a tactic, or a law with the definition that it is about. In which files, and what then.
 CHOSEN = [
-    ("first_of", "first_values", "elimination_rules/specs/First.antt|sheet_rules/specs/Bridge.antt|sheet_rules/specs/PutIn.antt"),
+    ("first_of", "first_values", "elimination_rules/specs/(First|Columns|Units).antt|sheet_rules/specs/(Bridge|PutIn).antt"),
     ("first_of", "first_failing", ""),
     ("in-limit", "in_limit_lem", "whole/specs/Size.antt"),
     ("in-limit", "limited", ""),

@@ -10,7 +10,7 @@ use Rattle.row.specs.Table.{constants, row_values, Rows}
 use Rattle.row.specs.Values.{none_dot}
 use Rattle.row.specs.Tables.{past, constants_low, constants_high}
 use Rattle.elimination_rules.specs.General.{Gap, Off, val, values, Column}
-use Rattle.elimination_rules.specs.First.{first_failing, at_first, length_first, first_at}
+use Rattle.elimination_rules.specs.First.{first_values, at_first, length_first, first_at}
 use Rattle.elimination_rules.specs.Zeros.{dot_below}
 use Rattle.elimination_rules.specs.Yield.{yield, yield_row}
 use Rattle.elimination_rules.specs.Moves.{Stands, dot_off}
@@ -32,14 +32,14 @@ module _ (u v c : ℕ) where
   rest = replicate (u - v) (pos 0) ++ drop u (single c)
 
   abbrev pub whole : List ℤ → List ℤ
-  whole a = first_failing v (at a) ++ rest
+  whole a = first_values v (at a) ++ rest
 
   pub at_whole : (a : List ℤ) (i : ℕ) → i < v → at (whole a) i ≡ at a i
-  at_whole a i h = get_or-append (first_failing v (at a)) rest (pos 0) i (omega (arith, length_first v (at a))) ∙ at_first v (at a) i h
+  at_whole a i h = get_or-append (first_values v (at a)) rest (pos 0) i (omega (arith, length_first v (at a))) ∙ at_first v (at a) i h
 
   pub constant_whole : v ≤ u → (a : List ℤ) → Constant u c (whole a)
   constant_whole vu a i h =
-      let l : List ℤ = first_failing v (at a) in
+      let l : List ℤ = first_values v (at a) in
       ap (λ x. at x i) (sym (append_assoc l (replicate (u - v) (pos 0)) (drop u (single c))))
       ∙ past (l ++ replicate (u - v) (pos 0)) (single c) u i
       (length-append l (replicate (u - v) (pos 0)) ∙ ap₂ ◌+◌ (length_first v (at a)) (length-replicate (u - v) (pos 0)) ∙ omega arith) h
@@ -91,7 +91,7 @@ module _ (u v w c : ℕ) (vu : v ≤ u) (uc : u ≤ c) (S : List ℤ → Type 0)
   yield_full : (z : List ℤ) → yield w v t (full z) ≡ full (yields z)
   yield_full z =
       ap₂ ◌++◌ (values_agree z z (λ i b. refl) ∙ sym (first_at v (yields z) (length_yielded u c w v t z)))
-      (drop_at (first_failing v (at z)) (rest u v c) v (length_first v (at z)))
+      (drop_at (first_values v (at z)) (rest u v c) v (length_first v (at z)))
 
   values_back : (a : List ℤ) → row_values w v t (s.back (full a)) ≡ yields (s.back (full a))
   values_back a =

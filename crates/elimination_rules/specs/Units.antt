@@ -8,7 +8,7 @@ use Rattle.row.specs.Row.{at}
 use Rattle.row.specs.Table.{Rows}
 use Rattle.row.specs.Tables.{rows_both, rows_fewer}
 use Rattle.elimination_rules.specs.General.{Gap, val, values, Holds, Column, General, Clashing, Solvable}
-use Rattle.elimination_rules.specs.First.{first_failing, at_first, first_at}
+use Rattle.elimination_rules.specs.First.{first_values, at_first, first_at}
 use Rattle.elimination_rules.specs.Columns.{val_below, length_yielded}
 
 -- A unit for each unknown: of unknown j, the exponent of base b.
@@ -17,7 +17,7 @@ Units = ℕ → ℕ → ℤ
 
 -- The exponents of base b that the v unknowns have.
 abbrev pub in_base : ℕ → Units → ℕ → List ℤ
-in_base v x b = first_failing v (λ j. x j b)
+in_base v x b = first_values v (λ j. x j b)
 
 -- "the table yields units": of the units x that are chosen.
 abbrev pub yields : ℕ → ℕ → ℕ → List ℤ → Units → Units
@@ -54,8 +54,8 @@ pub record FirstClash (u v w m : ℕ) (es : List ℤ) (n : ℕ) : Type 0 where
 -- ---- column by column
 module _ (u v w : ℕ) (t : List ℤ) (f : ℕ) (free : (i : ℕ) → bit i f ≡ 1 → i < v)
     (A : ℕ → List ℤ → Type 0) (k : (b : ℕ) → u + b < w → Column u v w (A b) t f (u + b)) where
-  values_first : (b : ℕ) → u + b < w → (z : List ℤ) → values u (u + b) w v t (first_failing v (at z)) ≡ values u (u + b) w v t z
-  values_first b l z = (k b l).same (first_failing v (at z)) z (λ i h. at_first v (at z) i (free i h))
+  values_first : (b : ℕ) → u + b < w → (z : List ℤ) → values u (u + b) w v t (first_values v (at z)) ≡ values u (u + b) w v t z
+  values_first b l z = (k b l).same (first_values v (at z)) z (λ i h. at_first v (at z) i (free i h))
 
   -- The choice in base b, where there is such a base.
   chosen : (x : Units) (b : ℕ) (c : Bool) → ltb (u + b) w ≡ c → List ℤ
@@ -100,8 +100,8 @@ module _ (u v w : ℕ) where
   units_of : (m : ℕ) (es : List ℤ) → Rows (Gap u v) w m es → (s : ℕ → List ℤ) → ((c : ℕ) → u ≤ c → c < w → Holds u c w m es (s c)) → Agreeing u v w m es
   units_of m es g s h = record {
     units = λ j b. at (s (u + b)) j;
-    agree = λ b l. rows_both (Gap u v) (λ e. val u (u + b) e (s (u + b)) ≡ pos 0) (λ e. val u (u + b) e (first_failing v (at (s (u + b)))) ≡ pos 0)
-        (λ e k z. val_below u v (u + b) e (first_failing v (at (s (u + b)))) (s (u + b)) k (at_first v (at (s (u + b)))) ∙ z) w m es g (h (u + b) (omega arith) l);
+    agree = λ b l. rows_both (Gap u v) (λ e. val u (u + b) e (s (u + b)) ≡ pos 0) (λ e. val u (u + b) e (first_values v (at (s (u + b)))) ≡ pos 0)
+        (λ e k z. val_below u v (u + b) e (first_values v (at (s (u + b)))) (s (u + b)) k (at_first v (at (s (u + b)))) ∙ z) w m es g (h (u + b) (omega arith) l);
   }
 
   in_column : (m : ℕ) (es : List ℤ) (x : Units) → Agree u v w m es x → (c : ℕ) → u ≤ c → c < w → Holds u c w m es (in_base v x (c - u))
