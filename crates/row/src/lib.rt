@@ -1,4 +1,5 @@
 // Rows of exponents in lent slices, of any number of columns.
+#![tactic(auto)]
 pub mod add;
 pub mod change;
 pub mod smallest;

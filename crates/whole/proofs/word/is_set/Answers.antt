@@ -1,7 +1,9 @@
-use Rattle.std.proofs.Common.{rules, ◌<◌, eqb, ◌≡◌, ℕ, ◌+◌, ◌-◌, ◌*◌, ◌≤◌, length, ◌/◌, ◌%◌, Bool, true, false, nat_lt, List, [], ◌∷◌, ◌++◌, slice_index_or, slice_set, bit_and, bit_or, Fits, w8, w32, w64, Bor, MutBor}
-use Rattle.whole.specs.Word.{bit, cleared, count, first_set}
+-- The lowest digit of what stands from place j on.
+use Rattle.std.proofs.Common.{◌/◌, ◌^◌}
+use lib.Bits.{and_mask}
+use Rattle.whole.specs.Word.{bit}
 use Rattle.whole.proofs.word.is_set.Goals as goal
 
--- src/word.rt:14:1
 pub returns : goal.returns
-returns c = ?
+unfolding bit
+returns c = rw (and_mask (c.args.word / 2 ^ c.args.j) 1)

@@ -1,7 +1,8 @@
-use Rattle.std.proofs.Common.{rules, ◌<◌, eqb, ◌≡◌, ℕ, ◌+◌, ◌-◌, ◌*◌, ◌≤◌, length, ◌/◌, ◌%◌, Bool, true, false, nat_lt, List, [], ◌∷◌, ◌++◌, slice_index_or, slice_set, bit_and, bit_or, Fits, w8, w32, w64, Bor, MutBor}
-use Rattle.whole.specs.Word.{bit, cleared, count, first_set}
+-- The kit's count, of all 64 digits.
+use Rattle.std.proofs.Common.{◌∙◌, ap, sym, mod-eq_of_lt}
+use lib.Count.{ones}
+use Rattle.whole.specs.Word.{count_ones}
 use Rattle.whole.proofs.word.ones.Goals as goal
 
--- src/word.rt:30:1
 pub returns : goal.returns
-returns c = ?
+returns c = sym (count_ones 64 c.args.word ∙ ap ones (mod-eq_of_lt c.ranges.word.fits))

@@ -1,7 +1,6 @@
-use Rattle.std.proofs.Common.{rules, ◌<◌, eqb, ◌≡◌, ℕ, ◌+◌, ◌-◌, ◌*◌, ◌≤◌, length, ◌/◌, ◌%◌, Bool, true, false, nat_lt, List, [], ◌∷◌, ◌++◌, slice_index_or, slice_set, bit_and, bit_or, Fits, w8, w32, w64, Bor, MutBor}
-use Rattle.whole.specs.Word.{bit, cleared, count, first_set}
+-- A mask with every bit but bit j.
+use Rattle.whole.proofs.Mask.{masked}
 use Rattle.whole.proofs.word.without.Goals as goal
 
--- src/word.rt:22:1
 pub returns : goal.returns
-returns c = ?
+returns c = masked 64 c.args.word c.args.j c.requires c.ranges.word.fits

@@ -1,2 +1,0 @@
--- What the proofs on words share.
-mod Mask
