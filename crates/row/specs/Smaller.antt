@@ -1,12 +1,11 @@
 -- Laws of the smallest column: it is there, it is not 0, and none is smaller.
-use Rattle.std.specs.Prelude.{◌≡◌, refl, ◌≢◌, true, false, List, [], ◌∷◌, ℕ, zero, suc, ◌+◌, ◌-◌, ◌≤◌, ◌<◌, eqb, ltb, length, drop, ℤ, pos, nat_abs}
-use Rattle.std.proofs.Common.{sym, ap, ◌∙◌, subst, add-one, arith, eqb-true, ltb-true, ltb-false, ne_eqb, lt-ltb, le-ltb, drop_of_length-le}
+use Rattle.std.specs.Prelude.{◌≡◌, refl, false, List, [], ◌∷◌, ℕ, zero, suc, ◌+◌, ◌≤◌, ◌<◌, eqb, ltb, length, drop, ℤ, pos, nat_abs}
+use Rattle.std.proofs.Common.{ap, ◌∙◌, subst, add-one, arith, eqb-true, ltb-true, ltb-false, ne_eqb, lt-ltb, le-ltb, drop_of_length-le}
 use Rattle.std.proofs.lemmas.Bool.{eqb-false}
 use Rattle.std.proofs.Math.Seq.{drop-cons}
 use Rattle.whole.specs.Cases.{if, if_ind, by_less}
-use Rattle.whole.specs.Ring.{size_zero}
 use Rattle.row.specs.Row.{at}
-use Rattle.row.specs.Smallest.{Pick, nothing, column, better, smallest_from, smallest, size_of}
+use Rattle.row.specs.Smallest.{Pick, nothing, column, better, smallest_from, smallest}
 
 -- Of the columns below i: nothing where each is 0, else one that holds that size, which is not 0 and is the smallest.
 abbrev pub Least : List ℤ → ℕ → Pick → Type 0

@@ -1,19 +1,19 @@
 -- Laws of tables: lengths, limits, values, and what replacing does.
-use Rattle.std.specs.Prelude.{◌≡◌, Bool, true, false, get_or, take, drop, set, replicate, ℤ, pos, ◌+ℤ◌, ◌*ℤ◌}
+use Rattle.std.specs.Prelude.{◌≡◌, Bool, true, get_or, take, drop, set, replicate, ℤ, pos, ◌+ℤ◌, ◌*ℤ◌}
 use Rattle.std.proofs.Math.Path.{refl, sym, ap, ap₂}
-use Rattle.std.proofs.Common.{◌∙◌, length-take, length-drop, length-set, take_at, get_or-drop}
+use Rattle.std.proofs.Common.{◌∙◌, length-take, length-drop, length-set, take_at}
 use mathlib.Core.List.{List, [], ◌∷◌, ◌++◌}
-use Prim.Native.Nat.{ℕ, zero, suc, ◌+◌, ◌-◌, ◌*◌, ◌≤◌, ◌<◌}
+use Prim.Native.Nat.{ℕ, zero, suc, ◌+◌, ◌*◌, ◌≤◌, ◌<◌}
 use native.Mathlib.Omega.{arith}
 use Rattle.std.proofs.Math.ListN.{length, length-append, get_or-append}
 use Rattle.std.proofs.lemmas.List.{length-replicate, get_or-replicate}
 use Rattle.std.proofs.Math.Seq.{drop_at, drop-nil}
-use Rattle.std.proofs.Math.IntN.{+ℤ_idr, zero-*ℤ}
-use Rattle.whole.specs.Cases.{both, both_left, both_right, both_assoc, by_less}
+use Rattle.std.proofs.Math.IntN.{+ℤ_idr}
+use Rattle.whole.specs.Cases.{both, both_left, both_right, both_assoc}
 use Rattle.whole.specs.Identity.{identity, terms}
 use Rattle.row.specs.Row.{at, all, all_in_limit, plus, dot, single}
-use Rattle.row.specs.Table.{each_row, add_rows, constants, replaced, itself, start_from, start, Rows, row_values}
-use Rattle.row.specs.Values.{at_plus, length_plus, dot_comm, dot_none, same_dot, plus_dot, dot_single}
+use Rattle.row.specs.Table.{each_row, add_rows, constants, itself, start_from, Rows, row_values}
+use Rattle.row.specs.Values.{at_plus, length_plus, dot_comm, same_dot, plus_dot, dot_single}
 
 -- ---- all of a list
 pub all_append : {A : Type 0} (p : A → Bool) (r s : List A) → all p (r ++ s) ≡ both (all p r) (all p s)

@@ -1,5 +1,5 @@
 -- Division by a number above zero.
-use Rattle.std.specs.Prelude.{◌≡◌, ℕ, ◌/◌, ◌<◌, ℤ, pos, negsuc, ◌+ℤ◌, ◌-ℤ◌, ◌*ℤ◌, nat_abs, ◌≤ℤ◌, ◌<ℤ◌}
+use Rattle.std.specs.Prelude.{◌≡◌, ◌/◌, ◌<◌, ℤ, pos, negsuc, ◌+ℤ◌, ◌-ℤ◌, ◌*ℤ◌, nat_abs, ◌≤ℤ◌, ◌<ℤ◌}
 
 -- "quotient q, remainder r with 0 ≤ r < p, x = qp + r": rounded down, so that −3 by 2 is −2, 1.
 unfoldable pub quotient : ℤ → ℤ → ℤ

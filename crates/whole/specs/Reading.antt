@@ -1,7 +1,7 @@
 -- How `omega` reads whole numbers that are in scope:
 --     omega (arith, orders, sum a b)
 -- takes orders and equations of ℤ as hypotheses and proves them, with a record of facts for each compound number.
-use Rattle.std.specs.Prelude.{◌≡◌, refl, ◌≢◌, ℕ, zero, suc, ◌+◌, ◌*◌, ◌<◌, ◌≤◌, min, ℤ, pos, negsuc, neg_ℤ, ◌+ℤ◌, ◌-ℤ◌, ◌*ℤ◌, nat_abs, ◌≤ℤ◌, ◌<ℤ◌}
+use Rattle.std.specs.Prelude.{◌≡◌, refl, ◌≢◌, suc, ◌+◌, ◌*◌, ◌<◌, ◌≤◌, min, ℤ, pos, negsuc, neg_ℤ, ◌+ℤ◌, ◌-ℤ◌, ◌*ℤ◌, nat_abs, ◌≤ℤ◌, ◌<ℤ◌}
 use Rattle.std.proofs.Common.{arith}
 use Rattle.std.specs.Int.Signed.{mag}
 use Rattle.whole.specs.Difference.{up, down, from_parts, parts_le, parts_lt, parts_add, parts_mul, up_neg, down_neg}
