@@ -7,7 +7,7 @@ ghost use Rattle.sheet_rules.specs.Calls.{check, ask_line, lines_part, lines_sta
 ghost use Rattle.bench.specs.Spoken.{spoken_of};
 
 #[repr(C)]
-#[derive(Drop)]
+#[derive(Clone, Copy)]
 pub struct BenchAnswer {
     pub number: u32,
     pub rounds: u32,
@@ -56,7 +56,7 @@ pub extern "C" fn bench_line(sheet: &[u8], k: usize, table: &mut [i32]) -> Bench
 }
 
 #[repr(C)]
-#[derive(Drop)]
+#[derive(Clone, Copy)]
 pub struct BenchPart {
     pub start: u64,
     pub length: u64,

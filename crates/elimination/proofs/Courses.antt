@@ -11,7 +11,8 @@ use lib.IntN.{ℤ, pos, nat_abs}
 use lib.ListN.{length, take, drop, length-drop}
 use lib.Seq.{drop-drop, length-take-le}
 use Rattle.whole.specs.Cases.{if}
-use Rattle.whole.specs.Division.{quotient, rounded_down}
+use Rattle.whole.specs.Division.{quotient}
+use Rattle.whole.proofs.Division.{rounded_down}
 use Rattle.whole.specs.Size.{limit, in_limit}
 use Rattle.whole.specs.Word.{first_set, count, count_first}
 use Rattle.row.specs.Row.{at, all_in_limit}

@@ -7,7 +7,7 @@ ghost use Rattle.elimination.specs.Requires.{Lined, Lent};
 ghost use Rattle.elimination.specs.Heard.{verdict_of, answer_of, wanted_of};
 
 // "bit j is 1 exactly when unknown j is still free": the accepted have the rounds and that word, and others their place.
-#[derive(Drop)]
+#[derive(Clone, Copy)]
 pub enum Verdict {
     Accepted(u32, u64),
     Clash(usize),
@@ -15,7 +15,7 @@ pub enum Verdict {
 }
 
 // What the caller hears: rounds and the free word; or document 01's number, never 0, and its place.
-#[derive(Drop)]
+#[derive(Clone, Copy)]
 pub enum Answer {
     Accepted(u32, u64),
     Refused(u32, usize),

@@ -7,7 +7,7 @@ ghost use Rattle.elimination.specs.Requires.{Ready, Countable, smallest_size, Pl
 ghost use Rattle.elimination.specs.Views.{outcome_of};
 
 // What an equation comes to; Done has the rounds so far and the free word.
-#[derive(Drop)]
+#[derive(Clone, Copy)]
 pub enum Solved {
     Done(u32, u64),
     Clash,

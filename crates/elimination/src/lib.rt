@@ -1,4 +1,5 @@
 // The elimination: its own layer, which knows nothing of lines.
+#![tactic(auto)]
 pub mod call;
 pub mod columns;
 pub mod equation;

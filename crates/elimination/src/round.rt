@@ -9,7 +9,7 @@ ghost use Rattle.elimination.specs.Divided.{Divided};
 ghost use Rattle.elimination.specs.Views.{turn_of};
 
 // What a round comes to; Solved has the free word.
-#[derive(Drop)]
+#[derive(Clone, Copy)]
 pub enum Turned {
     Holds,
     Solved(u64),

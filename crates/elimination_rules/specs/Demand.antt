@@ -2,7 +2,7 @@
 -- `heard` with number, place, rounds, mask and the lent table at exit: number 0 is accepted, 9 past the limit, 10 a clash.
 use Rattle.std.specs.Prelude.{◌≡◌, refl, ◌≢◌, ◌↔◌, List, ◌++◌, ℕ, ◌+◌, ◌*◌, ◌/◌, ◌≤◌, ◌<◌, ◌^◌, length, take, drop, ℤ, pos}
 use Rattle.std.proofs.Common.{sym, ◌∙◌, ap, subst, mul_comm, arith, take_at, drop_at}
-use Rattle.whole.specs.Division.{rounded_down}
+use Rattle.whole.proofs.Division.{rounded_down}
 use Rattle.whole.specs.Word.{first_set, count}
 use Rattle.row.specs.Table.{start}
 use Rattle.elimination_rules.specs.Equation.{Verdict, accepted, clash_at, wide_at, spent_all}

@@ -4,7 +4,7 @@ ghost use Rattle.row.specs.Smallest.{better as better_pick, smallest as smallest
 ghost use Rattle.row.specs.Picked.{pick_of};
 
 // A column with the size that stands in it.
-#[derive(Drop)]
+#[derive(Clone, Copy)]
 pub enum Picked {
     Column(usize, u32),
     Nothing,

@@ -9,7 +9,7 @@ ghost use Rattle.sheet.specs.Store.{Stored};
 ghost use Rattle.sheet.specs.Working.{Worked};
 ghost use Rattle.sheet.specs.Asked.{asked_row, asked_place, Asked};
 
-#[derive(Drop)]
+#[derive(Clone, Copy)]
 pub enum Question {
     Line(usize),
     Channel(usize),

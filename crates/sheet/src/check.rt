@@ -12,7 +12,7 @@ ghost use Rattle.sheet_rules.specs.Formed.{Laid};
 ghost use Rattle.sheet.specs.Views.{shape_view, line_view, checked_of};
 
 // The number of the check that refuses and its place, or none does.
-#[derive(Drop)]
+#[derive(Clone, Copy)]
 pub enum Checked {
     Refused(u32, usize),
     WellFormed,

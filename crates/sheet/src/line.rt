@@ -8,7 +8,7 @@ ghost use Rattle.sheet.specs.Sources.{source_row, sum_row};
 ghost use Rattle.sheet.specs.Store.{Stored, Sourced, Summed, UnitSum, EquationSum};
 
 // Where a row comes from: all exponents 0, an earlier line, a channel's record, a unit record, an unknown.
-#[derive(Drop)]
+#[derive(Clone, Copy)]
 pub enum Source {
     Nothing,
     Line(usize),
@@ -18,13 +18,13 @@ pub enum Source {
 }
 
 // A row, or one row less a multiple of another.
-#[derive(Drop)]
+#[derive(Clone, Copy)]
 pub enum Sum {
     Alone(Source),
     Less(Source, i32, Source),
 }
 
-#[derive(Drop)]
+#[derive(Clone, Copy)]
 pub enum Equation {
     Nothing,
     One(Sum),

@@ -6,7 +6,7 @@ ghost use Rattle.sheet_rules.specs.Formed.{Laid};
 ghost use Rattle.sheet.specs.Views.{shape_view, line_view};
 
 // How many there are of each, and of how many columns the rows are.
-#[derive(Drop)]
+#[derive(Clone, Copy)]
 pub struct Shape {
     pub unknown_columns: usize,
     pub columns: usize,
@@ -16,7 +16,7 @@ pub struct Shape {
     pub lines: usize,
 }
 
-#[derive(Drop)]
+#[derive(Clone, Copy)]
 pub struct Line {
     pub code: u8,
     pub a: u8,

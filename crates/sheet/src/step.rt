@@ -38,7 +38,7 @@ pub fn unit_into(
 }
 
 // Whether a line has an equation, and whether that is within the limit.
-#[derive(Drop)]
+#[derive(Clone, Copy)]
 pub enum Stated {
     Nothing,
     Ready,

@@ -5,7 +5,8 @@ use Rattle.std.proofs.Math.Path.{refl}
 use Rattle.std.proofs.Common.{subst, arith}
 use mathlib.Core.List.{List, [], ◌∷◌}
 use Rattle.whole.specs.Cases.{by_less}
-use Rattle.whole.specs.Division.{quotient, rounded_down}
+use Rattle.whole.specs.Division.{quotient}
+use Rattle.whole.proofs.Division.{rounded_down}
 use Rattle.elimination_rules.specs.Equation.{Outcome, done, clashed, widened, spent, one, Verdict, accepted, clash_at}
 use Rattle.elimination_rules.specs.Call.{fuel}
 use Rattle.elimination_rules.specs.Moves.{Stands, stands_for}

@@ -5,7 +5,8 @@ use Rattle.std.proofs.Math.Path.{subst}
 use mathlib.Core.List.{List, [], ◌∷◌}
 use Prim.Native.Nat.{ℕ, zero, suc, ◌+◌, ◌*◌, ◌≤◌, ◌<◌}
 use Rattle.whole.specs.Cases.{by_less}
-use Rattle.whole.specs.Division.{quotient, rounded_down}
+use Rattle.whole.specs.Division.{quotient}
+use Rattle.whole.proofs.Division.{rounded_down}
 use Rattle.whole.specs.Word.{first_set, count, count_first}
 use Rattle.row.specs.Row.{all_in_limit}
 use Rattle.row.specs.Judged.{judged_ind}

@@ -59,7 +59,7 @@ pub fn plus_times(x: i64, f: i32, y: i32) -> i64
     x + f as i64 * (y as i64)
 }
 
-#[derive(Drop)]
+#[derive(Clone, Copy)]
 pub struct Divided {
     pub q: i32,
     pub r: i32,

@@ -1,5 +1,5 @@
 // The lowest place at which something is wrong.
-#[derive(Drop)]
+#[derive(Clone, Copy)]
 pub enum Found {
     Place(usize),
     Nowhere,
