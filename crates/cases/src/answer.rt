@@ -1,7 +1,7 @@
 // An answer as words, in a line that is written at once.
 ghost use Rattle.std.specs.Prelude.{◌≡◌, ◌+◌, ◌*◌, ◌≤◌, length};
 
-use libc::STDOUT_FILENO;
+use std::io;
 
 // The numbers of an answer: an accepted one has rounds and a mask, and others have a place.
 #[derive(Drop)]
@@ -17,21 +17,26 @@ fn put(line: &mut [u8], at: usize, text: &[u8]) -> usize
     requires { at + length text.now ≤ length line.old }
     ensures { result ≡ at + length text.now }
 {
-    let n = bytes::copy(text, &mut line[at..]);
-    at + n
+    let next = at + text.len();
+    line[at..next].copy_from_slice(text);
+    next
 }
 
-// The digits of a number: never more than 20, which io::decimal leaves unsaid.
+// The digits of a number: never more than 20.
 fn digits(line: &mut [u8], at: usize, n: u64) -> usize
     requires { at + 20 ≤ length line.old }
     ensures { result ≤ at + 20 }
 {
     let mut text = [0u8; 20];
-    let k = io::decimal(n, &mut text);
-    if 20 < k {
-        return at;
+    let mut from = 19;
+    let mut rest = n;
+    while 9 < rest {
+        text[from] = b'0' + (rest % 10) as u8;
+        rest /= 10;
+        from -= 1;
     }
-    put(line, at, &text[..k])
+    text[from] = b'0' + rest as u8;
+    put(line, at, &text[from..])
 }
 
 // A number with a space before it.
@@ -69,7 +74,7 @@ fn table(line: &mut [u8], from: usize, t: &[i32]) -> usize
 }
 
 // The words of an answer in the line, which has room for all: 2 bytes, 4 of 21, 2, and 1,024 of 22.
-fn words(line: &mut [u8], letter: &[u8], h: Heard, t: &[i32]) -> bool
+fn words(rt: &impl Print, line: &mut [u8], letter: &[u8], h: Heard, t: &[i32]) -> io::Result<()>
     requires { (length letter.now ≤ 2) × (length t.now ≤ 1024) × (22616 ≤ length line.old) }
 {
     let a = put(line, 0, letter);
@@ -78,20 +83,20 @@ fn words(line: &mut [u8], letter: &[u8], h: Heard, t: &[i32]) -> bool
     let d = word(line, c, h.rounds);
     let e = word(line, d, h.mask);
     let n = table(line, e, t);
-    io::write_all(STDOUT_FILENO, &line[0..n])
+    rt.write_all(&line[0..n])
 }
 
 // An answer after its letter, with the table as it is after the call.
-pub fn say(letter: &[u8], h: Heard, t: &[i32]) -> bool
+pub fn say(rt: &impl Print, letter: &[u8], h: Heard, t: &[i32]) -> io::Result<()>
     requires { (length letter.now ≤ 2) × (length t.now ≤ 1024) }
 {
     let mut line = [0u8; 22616];
-    words(&mut line, letter, h, t)
+    words(rt, &mut line, letter, h, t)
 }
 
 // The end of an answer line.
-pub fn end() -> bool {
-    io::write_all(STDOUT_FILENO, b"\n")
+pub fn end(rt: &impl Print) -> io::Result<()> {
+    rt.write_all(b"\n")
 }
 
 // The table before a call: number i is 7000 + i.

@@ -1,48 +1,53 @@
 // Answers a pack of cases from standard input, a line each: tests/PACK.md has both formats.
-// A program here has no exit status: a file that is no pack shows on standard error alone.
+// A file that is no pack shows on standard error alone. A read or a write that fails ends main with its error.
+#![tactic(auto)]
+
 mod answer;
 mod pack;
 mod system;
 
-use libc::STDIN_FILENO;
+use std::io::{self, Read};
 
 // The rest of a case by its header, an arm for each kind.
-fn case(head: &[u8; 16]) -> bool {
+fn case(rt: &(impl Print + Eprint), input: &mut impl Read, head: &[u8; 16]) -> io::Result<bool> {
     let kind = pack::number(head, 0);
     let room = pack::number(head, 4) as usize;
     let questions = pack::number(head, 8) as usize;
     let length = pack::number(head, 12) as usize;
     match kind {
-        2 => system::say(room, questions, length),
-        _ => pack::out_of_limits(),
+        2 => system::say(rt, input, room, questions, length),
+        _ => pack::out_of_limits(rt),
     }
 }
 
 // One case. False where no other can follow.
-fn one() -> bool {
+fn one(rt: &(impl Print + Eprint), input: &mut impl Read) -> io::Result<bool> {
     let mut head = [0u8; 16];
-    let got = io::read_full(STDIN_FILENO, &mut head);
+    let got = pack::read_full(input, &mut head)?;
     if got == 0 {
-        return false;
+        return Ok(false);
     }
     if got < 16 {
-        return pack::cut();
+        return pack::cut(rt);
     }
-    case(&head)
+    case(rt, input, &head)
 }
 
 // Each case, until the pack ends or breaks.
-fn all() {
+fn all(rt: &(impl Print + Eprint), input: &mut impl Read) -> io::Result<()> {
     for _ in 0..18446744073709551615u64 {
-        if !one() {
-            return;
+        if !one(rt, input)? {
+            break;
         }
     }
+    Ok(())
 }
 
 // The cases of a pack, where standard input begins as one.
-fn main() {
-    if pack::begins() {
-        all();
+fn main(rt: HostRuntime) -> io::Result<()> {
+    let mut input = rt.reader();
+    if pack::begins(&rt, &mut input)? {
+        all(&rt, &mut input)?;
     }
+    Ok(())
 }

@@ -1,34 +1,50 @@
 // The parts of a pack, and what is said of a file that is none.
-ghost use Rattle.std.specs.Prelude.{◌+◌, ◌<◌, length};
+ghost use Rattle.std.specs.Prelude.{◌+◌, ◌<◌, ◌≤◌, length, take, IfOk};
+ghost use Rattle.std.specs.Io.KnownBytes.{Consumes, IsAtEnd};
 
-use libc::{STDERR_FILENO, STDIN_FILENO};
+use std::io::{self, Read};
+
+// Reads until the room is full or the input ends, and says how many bytes it put at the room's start.
+pub fn read_full<R: Read>(input: &mut R, room: &mut [u8]) -> io::Result<usize>
+    ensures within { IfOk result (λ n. n ≤ length room.new) }
+    ensures bytes { IfOk result (λ n. Consumes (R.remaining input.old) (R.remaining input.new) (take n room.new)) }
+    ensures end { IfOk result (λ n. n < length room.new → IsAtEnd (R.remaining input.new)) }
+{
+    let mut done = 0;
+    while done < room.len() {
+        let n = input.read(&mut room[done..])?;
+        if n == 0 {
+            break;
+        }
+        done += n;
+    }
+    Ok(done)
+}
 
 // Says why standard input is not a pack: no case follows.
-fn refuse(why: &[u8]) -> bool {
-    io::write_all(STDERR_FILENO, b"cases: standard input is not a pack: ");
-    io::write_all(STDERR_FILENO, why);
-    io::write_all(STDERR_FILENO, b"\n");
-    false
+fn refuse(rt: &impl Eprint, why: &str) -> io::Result<bool> {
+    eprintln!(rt; "cases: standard input is not a pack: {why}")?;
+    Ok(false)
 }
 
 // A header breaks the limits.
-pub fn out_of_limits() -> bool {
-    refuse(b"a header is out of the limits")
+pub fn out_of_limits(rt: &impl Eprint) -> io::Result<bool> {
+    refuse(rt, "a header is out of the limits")
 }
 
 // The file ends inside a case.
-pub fn cut() -> bool {
-    refuse(b"it ends inside a case")
+pub fn cut(rt: &impl Eprint) -> io::Result<bool> {
+    refuse(rt, "it ends inside a case")
 }
 
 // Whether standard input begins as a pack does.
-pub fn begins() -> bool {
+pub fn begins(rt: &impl Eprint, input: &mut impl Read) -> io::Result<bool> {
     let mut magic = [0u8; 8];
-    io::read_full(STDIN_FILENO, &mut magic);
-    if check::same(&magic, b"BENCHPK1") {
-        return true;
+    read_full(input, &mut magic)?;
+    if magic == *b"BENCHPK1" {
+        return Ok(true);
     }
-    refuse(b"it does not begin with BENCHPK1")
+    refuse(rt, "it does not begin with BENCHPK1")
 }
 
 // A byte as a number that sums and products of bytes fit.
