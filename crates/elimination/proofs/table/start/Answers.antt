@@ -9,7 +9,7 @@ loop-j-preserved c =
     let s = c.itself in
     let l = c.loop-j in
     let p = started_part l.invariant c.loop-j-test.true in
-    rw add-sub_cancel_left (started_more l.invariant c.loop-j-test.true s.new.0 (rw (add-sub_cancel_left, p) at s.ensures))
+    rw add-sub_cancel_left (started_more l.invariant c.loop-j-test.true s.new.r (rw (add-sub_cancel_left, p) at s.ensures))
 
 pub returns : goal.returns
 returns c = started_all c.loop-j.invariant c.loop-j-test.false

@@ -1,5 +1,5 @@
 -- `elimination::table::swap_row` meets its contract.
-use Rattle.std.proofs.Common.{sym, ap, ◌∙◌, w32, to_z}
+use Rattle.std.proofs.Common.{sym, ap, ◌∙◌, w32, to_z, arith}
 use Rattle.whole.proofs.Signed.{read}
 use Rattle.row.specs.Row.{at}
 use Rattle.elimination.proofs.Tables.{swap_none}
