@@ -1,5 +1,5 @@
 -- The elimination as other bench tools call it: "it takes V and equations of 32 numbers end to end".
-use Rattle.std.specs.Prelude.{Bool, true, false, not, List, ℕ, zero, suc, ◌+◌, ◌-◌, ◌*◌, ◌/◌, ◌%◌, eqb, ltb, length, take, drop, ℤ}
+use Rattle.std.specs.Prelude.{Bool, not, List, ℕ, zero, suc, ◌+◌, ◌-◌, ◌*◌, ◌/◌, ◌%◌, eqb, ltb, length, take, drop, ℤ}
 use Rattle.whole.specs.Cases.{if}
 use Rattle.whole.specs.Division.{quotient}
 use Rattle.whole.specs.Place.{Found, place, nowhere, on_found}

@@ -7,7 +7,7 @@ use Rattle.elimination_rules.specs.Equation.{Verdict}
 use Rattle.elimination_rules.specs.Answer.{Answer, refuses, accepts}
 use Rattle.elimination_rules.specs.Call.{on_accepted, on_verdict}
 use Rattle.sheet_rules.specs.Shape.{Shape, shape_of, lines_at}
-use Rattle.sheet_rules.specs.Checks.{Checked, on_checked, checked_sheet}
+use Rattle.sheet_rules.specs.Checks.{on_checked, checked_sheet}
 use Rattle.sheet_rules.specs.Lines.{unit_at, reads}
 use Rattle.sheet_rules.specs.Work.{solved}
 

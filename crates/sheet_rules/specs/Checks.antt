@@ -1,5 +1,5 @@
 -- "What the caller hears", checks 1 to 7: "Checks run in the order of the rows, lowest place first within one".
-use Rattle.std.specs.Prelude.{Bool, true, false, List, [], ◌∷◌, ℕ, ◌+◌, ◌*◌, leb, ltb, eqb, length}
+use Rattle.std.specs.Prelude.{Bool, true, false, List, [], ◌∷◌, ℕ, ◌+◌, ◌*◌, leb, eqb, length}
 use Rattle.whole.specs.Cases.{both}
 use Rattle.whole.specs.Place.{Found, place, nowhere, on_found, lowest}
 use Rattle.sheet_rules.specs.Shape.{Shape, byte, number, trailer, shape_of, unit_record, channel, line}

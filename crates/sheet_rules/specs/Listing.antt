@@ -1,5 +1,5 @@
 -- "The listing". Only here places and names count from one.
-use Rattle.std.specs.Prelude.{List, [], ◌∷◌, ◌++◌, ℕ, zero, suc, ◌+◌, eqb, take, drop, ℤ}
+use Rattle.std.specs.Prelude.{List, [], ◌++◌, ℕ, zero, suc, ◌+◌, eqb, take, drop, ℤ}
 use Rattle.whole.specs.Cases.{if}
 use Rattle.whole.specs.Word.{count}
 use Rattle.row.specs.Judged.{Judged, good, wide, judged}

@@ -1,7 +1,7 @@
 -- `bench::bench_check` meets its contract.
 use mathlib.Core.Path.{◌∙◌}
 use borrow.Author.Rules.{rules}
-use Rattle.sheet_rules.specs.Demand3.{check_ends}
+use Rattle.sheet_rules.proofs.Demand3.{check_ends}
 use Rattle.bench.proofs.bench_check.Statement.{statement}
 use Rattle.bench.proofs.bench_check.Tie as tie
 

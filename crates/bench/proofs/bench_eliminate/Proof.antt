@@ -1,7 +1,7 @@
 -- `bench::bench_eliminate` meets its contract.
 use mathlib.Core.Path.{◌∙◌}
 use borrow.Author.Rules.{rules}
-use Rattle.elimination_rules.specs.Demand.{answered_call}
+use Rattle.elimination_rules.proofs.Demand.{answered_call}
 use Rattle.bench.proofs.bench_eliminate.Statement.{statement}
 use Rattle.bench.proofs.bench_eliminate.Tie as tie
 

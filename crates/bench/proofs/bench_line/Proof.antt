@@ -1,7 +1,7 @@
 -- `bench::bench_line` meets its contract.
 use mathlib.Core.Path.{◌∙◌}
 use borrow.Author.Rules.{rules}
-use Rattle.sheet_rules.specs.Demand3.{line_ends}
+use Rattle.sheet_rules.proofs.Demand3.{line_ends}
 use Rattle.bench.proofs.bench_line.Statement.{statement}
 use Rattle.bench.proofs.bench_line.Tie as tie
 

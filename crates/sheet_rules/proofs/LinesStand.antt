@@ -9,19 +9,20 @@ use Rattle.whole.specs.Division.{quotient}
 use Rattle.whole.proofs.Division.{rounded_down}
 use Rattle.elimination_rules.specs.Equation.{Outcome, done, clashed, widened, spent, one, Verdict, accepted, clash_at}
 use Rattle.elimination_rules.specs.Call.{fuel}
-use Rattle.elimination_rules.specs.Moves.{Stands, stands_for}
-use Rattle.elimination_rules.specs.Course.{Constant, None, OutcomeStands}
-use Rattle.elimination_rules.specs.Fold.{With, one_stands, one_clash, start_stands}
-use Rattle.elimination_rules.specs.Columns.{whole, constant_whole, stands_column}
-use Rattle.elimination_rules.specs.Units.{Units, in_base, yields, MostGeneral, units_general}
+use Rattle.elimination_rules.proofs.Moves.{Stands, stands_for}
+use Rattle.elimination_rules.proofs.Course.{Constant, None, OutcomeStands}
+use Rattle.elimination_rules.proofs.Fold.{With, one_stands, one_clash, start_stands}
+use Rattle.elimination_rules.proofs.Columns.{whole, constant_whole, stands_column}
+use Rattle.elimination_rules.specs.Units.{Units, in_base, yields, MostGeneral}
+use Rattle.elimination_rules.proofs.Units.{units_general}
 use Rattle.sheet_rules.specs.Shape.{Shape}
 use Rattle.sheet_rules.specs.Lines.{equations_at}
 use Rattle.sheet_rules.specs.Work.{on_done, equations, line_outcome, solved}
 use Rattle.sheet_rules.specs.Agree.{IsBase, Agrees, Agreeing, FirstClash}
 use Rattle.sheet_rules.specs.Formed.{Formed}
-use Rattle.sheet_rules.specs.UnitRows.{Fitting, Each, equations_fit}
-use Rattle.sheet_rules.specs.WorkKept.{line_ind, LineKeeps, WorkKeeps, solved_ind}
-use Rattle.sheet_rules.specs.Bridge.{assigned, ZeroAt, line_agrees}
+use Rattle.sheet_rules.proofs.UnitRows.{Fitting, Each, equations_fit}
+use Rattle.sheet_rules.proofs.WorkKept.{line_ind, LineKeeps, WorkKeeps, solved_ind}
+use Rattle.sheet_rules.proofs.Bridge.{assigned, ZeroAt, line_agrees}
 
 -- The equations of the first n lines are zero at y.
 abbrev pub LinesZero : Shape → List ℕ → ℕ → List ℤ → Type 0

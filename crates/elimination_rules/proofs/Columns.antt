@@ -12,10 +12,10 @@ use Rattle.row.specs.Tables.{past, constants_low, constants_high}
 use Rattle.elimination_rules.specs.General.{Gap, Off, val, values, Column}
 use Rattle.elimination_rules.specs.First.{first_values, at_first, length_first, first_at}
 use Rattle.elimination_rules.specs.Zeros.{dot_below}
-use Rattle.elimination_rules.specs.Yield.{yield, yield_row}
-use Rattle.elimination_rules.specs.Moves.{Stands, dot_off}
-use Rattle.elimination_rules.specs.Course.{Constant, constant_value}
-use Rattle.elimination_rules.specs.Replace.{take_past, dot_parts}
+use Rattle.elimination_rules.proofs.Yield.{yield, yield_row}
+use Rattle.elimination_rules.proofs.Moves.{Stands, dot_off}
+use Rattle.elimination_rules.proofs.Course.{Constant, constant_value}
+use Rattle.elimination_rules.proofs.Replace.{take_past, dot_parts}
 
 pub length_yielded : (u c w v : ℕ) (t z : List ℤ) → length (values u c w v t z) ≡ v
 unfolding values

@@ -8,8 +8,8 @@ use Rattle.row.specs.Smallest.{smallest, size_of}
 use Rattle.row.specs.Table.{replaced}
 use Rattle.elimination_rules.specs.Round.{Turn, holds, solved, again, clash, wide, round}
 use Rattle.elimination_rules.specs.Equation.{Outcome, done, clashed, widened, spent, on_turn, solve, one}
-use Rattle.elimination_rules.specs.Ways.{one_ind}
-use Rattle.elimination_rules.specs.Fall.{smallest_in_limit, Remains, Falls, falls}
+use Rattle.elimination_rules.proofs.Ways.{one_ind}
+use Rattle.elimination_rules.proofs.Fall.{smallest_in_limit, Remains, Falls, falls}
 
 abbrev pub Ended : Outcome → Type 0
 Ended (done t k f) = Unit {0}

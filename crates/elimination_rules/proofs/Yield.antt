@@ -11,7 +11,7 @@ use Rattle.row.specs.Table.{row_values}
 use Rattle.row.specs.Values.{at_plus, plus_none, dot_plus, less_dot, dot_same, dot_single, single_other}
 use Rattle.row.specs.Tables.{length_values, values_same, values_each, past}
 use Rattle.elimination_rules.specs.Round.{swap}
-use Rattle.elimination_rules.specs.Swap.{swapped, length_swap}
+use Rattle.elimination_rules.proofs.Swap.{swapped, length_swap}
 
 -- ---- c times the value of q added in column j
 unfoldable pub moved : ℤ → List ℤ → ℕ → List ℤ → List ℤ

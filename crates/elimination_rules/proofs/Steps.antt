@@ -10,8 +10,8 @@ use Rattle.elimination_rules.specs.Round.{swap, Turn, solved, again, clash, wide
 use Rattle.elimination_rules.specs.General.{Off}
 use Rattle.elimination_rules.specs.Zeros.{Zero, Nonzero, Below, From, zero_everywhere}
 use Rattle.elimination_rules.specs.Divisions.{length_quotients, length_others, remainders_less, quotient_zero, quotient_one, remainder_small, multiple}
-use Rattle.elimination_rules.specs.Swap.{swapped}
-use Rattle.elimination_rules.specs.Ways.{turn_ind}
+use Rattle.elimination_rules.proofs.Swap.{swapped}
+use Rattle.elimination_rules.proofs.Ways.{turn_ind}
 
 -- A row of quotients in the free unknowns, x in the picked column: 1 where the unknown goes, 0 where it stays.
 pub record Quotients (u w f j : ℕ) (x : ℤ) (q : List ℤ) : Type 0 where

@@ -11,10 +11,10 @@ use Rattle.row.specs.Tables.{rows_map, rows_each, at_itself, length_start, rows_
 use Rattle.elimination_rules.specs.Round.{swap, Turn, holds, solved, again, clash, wide, upright, round}
 use Rattle.elimination_rules.specs.General.{Off, Kept}
 use Rattle.elimination_rules.specs.Zeros.{Zero, Nonzero, Below, sized}
-use Rattle.elimination_rules.specs.Upright.{Picked, at_negated, upright_ind, length_upright, size_upright, upright_positive}
-use Rattle.elimination_rules.specs.Swap.{swapped, length_swap, length_swapped, off_swap, off_gone, swap_stays}
-use Rattle.elimination_rules.specs.Ways.{round_ind}
-use Rattle.elimination_rules.specs.Steps.{Quotients, step_ind}
+use Rattle.elimination_rules.proofs.Upright.{Picked, at_negated, upright_ind, length_upright, size_upright, upright_positive}
+use Rattle.elimination_rules.proofs.Swap.{swapped, length_swap, length_swapped, off_swap, off_gone, swap_stays}
+use Rattle.elimination_rules.proofs.Ways.{round_ind}
+use Rattle.elimination_rules.proofs.Steps.{Quotients, step_ind}
 
 -- "It starts with unknown j equal to itself, all V columns free."
 pub start_kept : (u v w : ℕ) → v ≤ w → Kept u v w (start w v) (first_set v)

@@ -14,15 +14,15 @@ use Rattle.row.specs.Table.{start}
 use Rattle.elimination_rules.specs.Equation.{Outcome, done, clashed, widened, spent, one, Verdict, accepted, clash_at, wide_at, spent_all, on_outcome}
 use Rattle.elimination_rules.specs.Call.{fuel}
 use Rattle.elimination_rules.specs.General.{Kept}
-use Rattle.elimination_rules.specs.Kept.{start_kept}
-use Rattle.elimination_rules.specs.Count.{Counted, OutcomeKept, one_outcome}
-use Rattle.elimination_rules.specs.Fuel.{Ended, one_ended}
-use Rattle.elimination_rules.specs.Fold.{OutcomeKeeps}
+use Rattle.elimination_rules.proofs.Kept.{start_kept}
+use Rattle.elimination_rules.proofs.Count.{Counted, OutcomeKept, one_outcome}
+use Rattle.elimination_rules.proofs.Fuel.{Ended, one_ended}
+use Rattle.elimination_rules.proofs.Fold.{OutcomeKeeps}
 use Rattle.sheet_rules.specs.Shape.{Shape}
 use Rattle.sheet_rules.specs.Lines.{unit_at, equations_at}
 use Rattle.sheet_rules.specs.Work.{on_done, equations, line_outcome, work, solved}
 use Rattle.sheet_rules.specs.Formed.{Formed}
-use Rattle.sheet_rules.specs.UnitRows.{Each, each_map, equations_fit}
+use Rattle.sheet_rules.proofs.UnitRows.{Each, each_map, equations_fit}
 
 -- ---- by induction: Q holds of the state before line i, C of a clash at line i, X of fuel that ran out
 module _ (sh : Shape) (s : List ℕ) where

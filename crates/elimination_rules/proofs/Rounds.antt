@@ -6,9 +6,9 @@ use Rattle.whole.specs.Size.{limit}
 use Rattle.whole.specs.Word.{count}
 use Rattle.elimination_rules.specs.Equation.{Outcome, done, clashed, widened, spent, one, accepted, each}
 use Rattle.elimination_rules.specs.General.{Kept}
-use Rattle.elimination_rules.specs.Count.{Counted, OutcomeKept, one_outcome}
-use Rattle.elimination_rules.specs.Fuel.{one_ended}
-use Rattle.elimination_rules.specs.Fold.{OutcomeKeeps, VerdictKeeps, each_keeps}
+use Rattle.elimination_rules.proofs.Count.{Counted, OutcomeKept, one_outcome}
+use Rattle.elimination_rules.proofs.Fuel.{one_ended}
+use Rattle.elimination_rules.proofs.Fold.{OutcomeKeeps, VerdictKeeps, each_keeps}
 
 module _ {quo : ℤ → ℤ → ℤ} (d : Division quo) (n u v w : ℕ) (vw : v ≤ w) (uw : u ≤ w) where
   -- Kept, and within a bound on the rounds.

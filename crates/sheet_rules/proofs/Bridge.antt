@@ -13,7 +13,7 @@ use Rattle.row.specs.Values.{dot_none, dot_comm, dot_zero, same_dot, dot_single,
 use Rattle.row.specs.Tables.{at_zeros, at_itself}
 use Rattle.elimination_rules.specs.General.{val}
 use Rattle.elimination_rules.specs.First.{first_values, at_first}
-use Rattle.elimination_rules.specs.Columns.{whole, at_whole, val_whole}
+use Rattle.elimination_rules.proofs.Columns.{whole, at_whole, val_whole}
 use Rattle.elimination_rules.specs.Units.{Units, in_base}
 use Rattle.sheet_rules.specs.Shape.{Shape, unit_record, channel, line}
 use Rattle.sheet_rules.specs.Good as G
@@ -23,7 +23,7 @@ use Rattle.sheet_rules.specs.Lines.{none, unknown, reads, unit_of, units, unit_a
 use Rattle.sheet_rules.specs.Agree.{IsBase, Same, sum, exponent, record_unit, reading_unit, unit_by, AgreesBy, unit_within, line_unit, LineAgrees}
 use Rattle.sheet_rules.specs.Formed.{Formed}
 use Rattle.sheet_rules.specs.FormedLaws.{Operands}
-use Rattle.sheet_rules.specs.UnitRows.{Each, record_fits, unit_fits, units_are, line_operands}
+use Rattle.sheet_rules.proofs.UnitRows.{Each, record_fits, unit_fits, units_are, line_operands}
 
 -- ---- a value as a sum
 dot_sum : (v : ℕ) (r : List ℤ) (g : ℕ → ℤ) → dot r (first_values v g) ≡ sum v (λ j. at r j *ℤ g j)

@@ -11,7 +11,7 @@ use Rattle.elimination_rules.specs.Equation.{Verdict, accepted, clash_at, wide_a
 use Rattle.elimination_rules.specs.Answer.{Answer, heard, unanswered, refuses, accepts}
 use Rattle.elimination_rules.specs.Call.{on_accepted, on_verdict}
 use Rattle.elimination_rules.specs.General.{val}
-use Rattle.elimination_rules.specs.Kept.{replaced_long}
+use Rattle.elimination_rules.proofs.Kept.{replaced_long}
 use Rattle.elimination_rules.specs.Units.{Units, in_base, yields}
 use Rattle.sheet_rules.specs.Shape.{Shape, shape_of}
 use Rattle.sheet_rules.specs.Checks.{Checked, refused, well_formed, on_checked, first_failing, checks, checked_sheet}
@@ -20,10 +20,10 @@ use Rattle.sheet_rules.specs.Work.{solved}
 use Rattle.sheet_rules.specs.Calls.{check_by, check, put_in, ask_by, ask_line, ask_channel}
 use Rattle.sheet_rules.specs.Formed.{Formed}
 use Rattle.sheet_rules.specs.FormedLaws.{formed}
-use Rattle.sheet_rules.specs.UnitRows.{Fitting, unit_fits, reads_fits}
-use Rattle.sheet_rules.specs.WorkKept.{solved_kept, solved_ends}
-use Rattle.sheet_rules.specs.Bridge.{assigned}
-use Rattle.sheet_rules.specs.PutIn.{replaced_unit}
+use Rattle.sheet_rules.proofs.UnitRows.{Fitting, unit_fits, reads_fits}
+use Rattle.sheet_rules.proofs.WorkKept.{solved_kept, solved_ends}
+use Rattle.sheet_rules.proofs.Bridge.{assigned}
+use Rattle.sheet_rules.proofs.PutIn.{replaced_unit}
 
 -- ---- the checks' refusals are 1 to 7
 abbrev pub Numbered : Checked → Type 0

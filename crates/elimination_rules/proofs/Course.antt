@@ -14,12 +14,12 @@ use Rattle.elimination_rules.specs.Round.{Turn, holds, solved, again, clash, wid
 use Rattle.elimination_rules.specs.Equation.{Outcome, done, clashed, widened, spent, on_turn, solve}
 use Rattle.elimination_rules.specs.Zeros.{Zero, Nonzero, Below, From, in_length, dot_from, zero_everywhere}
 use Rattle.elimination_rules.specs.Divisions.{small_multiple}
-use Rattle.elimination_rules.specs.Upright.{at_negated, upright_ind, length_upright, upright_positive}
-use Rattle.elimination_rules.specs.Swap.{length_swap}
-use Rattle.elimination_rules.specs.Ways.{round_ind}
-use Rattle.elimination_rules.specs.Steps.{step_ind}
-use Rattle.elimination_rules.specs.Kept.{picked_free}
-use Rattle.elimination_rules.specs.Moves.{Stands, again_stands, last_stands, same_stands}
+use Rattle.elimination_rules.proofs.Upright.{at_negated, upright_ind, length_upright, upright_positive}
+use Rattle.elimination_rules.proofs.Swap.{length_swap}
+use Rattle.elimination_rules.proofs.Ways.{round_ind}
+use Rattle.elimination_rules.proofs.Steps.{step_ind}
+use Rattle.elimination_rules.proofs.Kept.{picked_free}
+use Rattle.elimination_rules.proofs.Moves.{Stands, again_stands, last_stands, same_stands}
 
 -- The constants of column c: 1 there, and 0 in every other column from u on.
 abbrev pub Constant : ℕ → ℕ → List ℤ → Type 0

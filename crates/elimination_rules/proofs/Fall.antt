@@ -13,9 +13,9 @@ use Rattle.row.specs.Tables.{all_at, all_of, all_set}
 use Rattle.elimination_rules.specs.Round.{Turn, holds, solved, again, clash, wide, upright, round}
 use Rattle.elimination_rules.specs.Zeros.{Nonzero, Below, some_size}
 use Rattle.elimination_rules.specs.Divisions.{length_quotients, length_others, length_remainders, remainder_none, remainder_small}
-use Rattle.elimination_rules.specs.Upright.{least_unknown, Picked, length_upright, size_upright, upright_positive}
-use Rattle.elimination_rules.specs.Swap.{length_swapped}
-use Rattle.elimination_rules.specs.Ways.{turn_ind, round_ind}
+use Rattle.elimination_rules.proofs.Upright.{least_unknown, Picked, length_upright, size_upright, upright_positive}
+use Rattle.elimination_rules.proofs.Swap.{length_swapped}
+use Rattle.elimination_rules.proofs.Ways.{turn_ind, round_ind}
 
 -- The smallest size is at most that of any unknown that is there.
 pub smallest_of : (u : ℕ) (e : List ℤ) (i : ℕ) → i < u → 0 < nat_abs (at e i) → (0 < size_of (smallest (take u e))) × (size_of (smallest (take u e)) ≤ nat_abs (at e i))

@@ -8,11 +8,11 @@ use Rattle.row.specs.Table.{start, Rows}
 use Rattle.row.specs.Tables.{rows_both, rows_fewer}
 use Rattle.elimination_rules.specs.Equation.{Verdict, accepted, clash_at, wide_at, spent_all, eliminate}
 use Rattle.elimination_rules.specs.General.{Gap, val, values, Holds, Column, Clashing, Promise, Decided}
-use Rattle.elimination_rules.specs.Kept.{start_kept}
-use Rattle.elimination_rules.specs.Moves.{Stands}
-use Rattle.elimination_rules.specs.Fold.{WithAll, Clash, VerdictStands, each_stands, start_stands}
-use Rattle.elimination_rules.specs.Rounds.{each_kept}
-use Rattle.elimination_rules.specs.Columns.{whole, constant_whole, val_whole, stands_column, column_for}
+use Rattle.elimination_rules.proofs.Kept.{start_kept}
+use Rattle.elimination_rules.proofs.Moves.{Stands}
+use Rattle.elimination_rules.proofs.Fold.{WithAll, Clash, VerdictStands, each_stands, start_stands}
+use Rattle.elimination_rules.proofs.Rounds.{each_kept}
+use Rattle.elimination_rules.proofs.Columns.{whole, constant_whole, val_whole, stands_column, column_for}
 
 -- Every assignment.
 abbrev Any : List ℤ → Type 0

@@ -1,0 +1,8 @@
+pub mod Prefix
+pub mod UnitRows
+pub mod WorkKept
+pub mod Bridge
+pub mod LinesStand
+pub mod PutIn
+pub mod Answers
+pub mod Demand3
