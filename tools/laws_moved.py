@@ -1,5 +1,5 @@
 #!/usr/bin/env python3
-"""Turn imports of laws that moved from specs/ to proofs/ of elimination_rules and sheet_rules.
+"""Turn imports of laws that moved from specs/ to proofs/ of whole, elimination_rules and sheet_rules.
 
 Run at the top of the checkout: `python3 tools/laws_moved.py`. It names each file that it changes; a second run changes none.
 An import of names of both kinds becomes two lines.
@@ -14,6 +14,10 @@ MOVED = {
     for module in "Upright Swap Ways Fall Steps Kept Count Fuel Yield Moves Course Replace Fold Rounds Columns Theorem".split()
 }
 MOVED.update({("sheet_rules", module): "*" for module in "Prefix UnitRows WorkKept Bridge LinesStand PutIn Answers".split()})
+MOVED["whole", "Division"] = (
+    "divided none_of same_quotient same_remainder rounded_down toward_zero size_rem lowered_quotient lowered_remainder kept_quotient"
+    " kept_remainder size_quotient quotient_fits remainder_fits"
+).split()
 MOVED["elimination_rules", "Units"] = "units_general general_units solvable_units units_solvable clash_units clash_all".split()
 MOVED["elimination_rules", "Checked"] = "verdict checked_answer call_ind answer_checked".split()
 MOVED["elimination_rules", "Demand"] = (

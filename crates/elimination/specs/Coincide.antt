@@ -5,7 +5,7 @@ use Rattle.std.proofs.Common.{sym, ◌∙◌, ap}
 use Rattle.row.specs.Row.{all_in_limit}
 use Rattle.elimination_rules.specs.Answer.{Answer, heard, unanswered}
 use Rattle.elimination_rules.specs.Call.{eliminated}
-use Rattle.elimination_rules.specs.Demand.{accepted_call, answered_call}
+use Rattle.elimination_rules.proofs.Demand.{accepted_call, answered_call}
 use Rattle.elimination.specs.Heard.{answer_of}
 use Rattle.elimination.specs.declared.call.Answer as A
 

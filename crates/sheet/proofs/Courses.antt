@@ -22,7 +22,7 @@ use Rattle.sheet_rules.specs.Shape.{Shape}
 use Rattle.sheet_rules.specs.Lines.{equations_at}
 use Rattle.sheet_rules.specs.Work.{on_done, equations, line_outcome, work, solved}
 use Rattle.sheet_rules.specs.Formed.{Formed}
-use Rattle.sheet_rules.specs.WorkKept.{start_kept_lines, line_kept}
+use Rattle.sheet_rules.proofs.WorkKept.{start_kept_lines, line_kept}
 use Rattle.sheet.specs.Store.{Stored}
 use Rattle.sheet.specs.Steps.{Given}
 use Rattle.sheet.specs.Working.{Roomy, Stepping, StoredIf, Stepped, Worked}

@@ -14,7 +14,7 @@ use Rattle.sheet_rules.specs.Checks.{on_checked, checked_sheet}
 use Rattle.sheet_rules.specs.Lines.{unit_at, reads}
 use Rattle.sheet_rules.specs.Work.{solved}
 use Rattle.sheet_rules.specs.Calls.{check, ask_by, ask_line, ask_channel, lines_part}
-use Rattle.sheet_rules.specs.Answers.{check_ind, ask_ind, check_answered, line_answered, channel_answered}
+use Rattle.sheet_rules.proofs.Answers.{check_ind, ask_ind, check_answered, line_answered, channel_answered}
 
 -- For a call with the answer a, where the table was lent.
 pub record Settled (lent : List ℤ) (a : Answer) : Type 0 where

@@ -1,6 +1,6 @@
 -- `sheet::ask::asked_row` meets its contract.
 use borrow.Author.Rules.{rules}
-use Rattle.sheet_rules.specs.Prefix.{channel_there}
+use Rattle.sheet_rules.proofs.Prefix.{channel_there}
 use Rattle.sheet.proofs.ask.asked_row.Statement.{statement}
 use Rattle.sheet.proofs.ask.asked_row.Tie as tie
 

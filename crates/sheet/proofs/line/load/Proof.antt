@@ -2,7 +2,7 @@
 use mathlib.Core.Path.{sym, ◌∙◌}
 use native.Mathlib.Omega.{arith}
 use borrow.Author.Rules.{rules}
-use Rattle.sheet_rules.specs.Prefix.{unit_of_lem, channel_there}
+use Rattle.sheet_rules.proofs.Prefix.{unit_of_lem, channel_there}
 use Rattle.sheet.proofs.line.load.Statement.{statement}
 use Rattle.sheet.proofs.line.load.Tie as tie
 

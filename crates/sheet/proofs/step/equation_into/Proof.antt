@@ -6,7 +6,7 @@ use borrow.Author.Rules.{rules}
 use Rattle.row.specs.Judged.{judged, judged_of}
 use Rattle.sheet_rules.specs.Shape.{line}
 use Rattle.sheet_rules.specs.Lines.{units, equations_at}
-use Rattle.sheet_rules.specs.Prefix.{good_operands}
+use Rattle.sheet_rules.proofs.Prefix.{good_operands}
 use Rattle.sheet.specs.Views.{shape_view}
 use Rattle.sheet.specs.Sources.{equation_rows}
 use Rattle.sheet.specs.Store.{EquationSum}

@@ -8,7 +8,7 @@ use Rattle.row.specs.Judged.{judged, judged_of}
 use Rattle.row.proofs.Judging.{judged_true}
 use Rattle.sheet_rules.specs.Shape.{line}
 use Rattle.sheet_rules.specs.Lines.{unit_at}
-use Rattle.sheet_rules.specs.Prefix.{good_operands, unit_long}
+use Rattle.sheet_rules.proofs.Prefix.{good_operands, unit_long}
 use Rattle.sheet.specs.Views.{shape_view}
 use Rattle.sheet.specs.Store.{UnitSum}
 use Rattle.sheet.proofs.step.unit_into.Statement.{statement}
