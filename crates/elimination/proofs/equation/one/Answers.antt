@@ -15,11 +15,11 @@ returns-then-not-replace c =
 pub solve-requires : goal.solve-requires
 solve-requires c =
     let r = c.replace in
-    replaced_ready r.new.out.1.1.0 c.requires r.auto.out.1.1.0 (rw (c.if-not-replace.false) at r.ensures)
+    replaced_ready r.new.out c.requires r.auto.out (rw (c.if-not-replace.false) at r.ensures)
 
 pub returns : goal.returns
 returns c =
     let r = c.replace in
     let x = (sym c.all_in_limit.ensures ∙ c.if-not-all_in_limit.false) in
-    one_solves _ _ _ _ _ _ x r.new.out.1.1.0 _ (rw (c.if-not-replace.false) at r.ensures)
+    one_solves _ _ _ _ _ _ x r.new.out _ (rw (c.if-not-replace.false) at r.ensures)
     c.solve.ensures
