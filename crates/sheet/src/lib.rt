@@ -1,4 +1,6 @@
 // Calibration sheets: their bytes, their checks, their lines, and the calls on them.
+#![tactic(auto)]
+
 pub mod ask;
 pub mod call;
 pub mod check;
