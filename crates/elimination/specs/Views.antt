@@ -1,7 +1,7 @@
 -- What the code answers, in the words of the rules.
-use Rattle.std.specs.Prelude.{List, ℕ, ℤ}
+use Rattle.std.specs.Prelude.{List, ℤ}
 use Rattle.elimination_rules.specs.Round.{Turn, holds, solved, again, clash, wide}
-use Rattle.elimination_rules.specs.Equation.{Outcome, done, clashed, widened, Verdict, accepted, clash_at, wide_at}
+use Rattle.elimination_rules.specs.Equation.{Outcome, done, clashed, widened}
 use Rattle.elimination.specs.declared.round.Turned as T
 use Rattle.elimination.specs.declared.equation.Solved as S
 

@@ -1,5 +1,6 @@
 // The elimination: its own layer, which knows nothing of lines.
 #![tactic(auto)]
+
 pub mod call;
 pub mod columns;
 pub mod equation;

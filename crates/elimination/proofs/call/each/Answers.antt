@@ -1,6 +1,6 @@
 -- `elimination::call::each` meets its contract. The loop's invariant: what the rest of the equations comes to, from the table, the rounds and
 -- the word so far, is what all of them come to; the rooms keep their lengths.
-use Rattle.std.proofs.Common.{refl, ◌∙◌, ◌-◌, arith}
+use Rattle.std.proofs.Common.{refl, ◌∙◌, arith}
 use native.Mathlib.Nat.{add-sub_cancel_left}
 use Rattle.elimination_rules.specs.Equation.{clashed, widened, clash_at, wide_at}
 use Rattle.elimination.proofs.Courses.{lining_none, lining_end, lining_stop, lining_more}

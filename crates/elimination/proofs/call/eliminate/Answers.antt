@@ -1,5 +1,5 @@
 -- `elimination::call::eliminate` meets its contract.
-use Rattle.std.proofs.Common.{◌∙◌, arith}
+use Rattle.std.proofs.Common.{◌∙◌}
 use Rattle.elimination.proofs.Courses.{refuses_unknowns, refuses_length, refuses_column, refuses_room, is_worked}
 use Rattle.elimination.proofs.call.eliminate.Goals as goal
 

@@ -1,5 +1,5 @@
 -- `elimination::columns::first_used` meets its contract. The loop's invariant: what the rest of the equations comes to is what all of them come to.
-use Rattle.std.proofs.Common.{◌≡◌, sym, ◌∙◌, ◌-◌, arith, take, drop}
+use Rattle.std.proofs.Common.{◌≡◌, sym, ◌∙◌, arith, take, drop}
 use native.Mathlib.Nat.{add-sub_cancel_left}
 use Rattle.elimination_rules.specs.Call.{unused}
 use Rattle.elimination.proofs.Courses.{searched_end, searched_stop, searched_more}

@@ -1,6 +1,5 @@
 -- `elimination::equation::one` meets its contract.
-use Rattle.std.proofs.Common.{sym, ◌∙◌, true}
-use Rattle.row.specs.Row.{all_in_limit}
+use Rattle.std.proofs.Common.{sym, ◌∙◌}
 use Rattle.elimination.proofs.Courses.{one_wide, replaced_wide, replaced_ready, one_solves}
 use Rattle.elimination.proofs.equation.one.Goals as goal
 

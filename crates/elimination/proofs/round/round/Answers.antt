@@ -1,5 +1,5 @@
 -- `elimination::round::round` meets its contract.
-use Rattle.std.proofs.Common.{arith, sym, ap, ◌∙◌}
+use Rattle.std.proofs.Common.{sym, ap, ◌∙◌}
 use native.Mathlib.Nat.{sub-zero}
 use Rattle.row.specs.Picked.{pick_of}
 use Rattle.elimination.proofs.Turns.{is_picked}

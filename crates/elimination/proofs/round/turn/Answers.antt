@@ -2,7 +2,6 @@
 use Rattle.std.proofs.Common.{sym, ◌∙◌, w32}
 use native.Mathlib.Nat.{sub-zero}
 use Rattle.whole.proofs.Signed.{read}
-use Rattle.row.specs.Row.{all_zero}
 use Rattle.elimination.proofs.Turns.{part_end, is_clash, is_solved, is_again}
 use Rattle.elimination.proofs.round.turn.Goals as goal
 

@@ -1,5 +1,4 @@
 -- `elimination::table::start` meets its contract. The loop's invariant: the rows that are written, and those that are left to write, give the start.
-use Rattle.std.proofs.Common.{◌-◌}
 use native.Mathlib.Nat.{add-sub_cancel_left}
 use Rattle.elimination.proofs.Tables.{started_all, started_part, started_more}
 use Rattle.elimination.proofs.table.start.Goals as goal
