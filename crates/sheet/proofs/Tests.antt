@@ -1,8 +1,8 @@
--- Laws of tests: what code answers that leaves at the first test that fails, and what a negated test says.
+-- Laws of tests: what code answers that leaves at the first test that fails.
 use mathlib.Core.Path.{◌≡◌, refl, sym, ◌∙◌}
-use mathlib.Core.Bool.{Bool, true, false, not}
+use mathlib.Core.Bool.{Bool, true, false}
 use Prim.Native.Nat.{ℕ, zero, suc}
-use borrow.Author.Tests.{lt-ltb, le-ltb, le-leb, lt-leb, eq-eqb, ne_eqb, not-true, not-false}
+use borrow.Author.Tests.{lt-ltb, le-ltb, le-leb, lt-leb, eq-eqb, ne_eqb}
 use lib.Dec.{ltb, eqb, leb-suc-suc, leb-suc-zero, eqb-suc-zero}
 use Rattle.whole.specs.Cases.{both}
 
@@ -20,8 +20,8 @@ below_one (suc b) = leb-suc-suc (suc b) 0 ∙ leb-suc-zero b ∙ sym (eqb-suc-ze
 
 -- A callee answers r where b is asked.
 module _ {r b : Bool} (e : r ≡ b) where
-  pub refuted : not r ≡ true → b ≡ false
-  refuted h = sym e ∙ not-true r h
+  pub refuted : r ≡ false → b ≡ false
+  refuted h = sym e ∙ h
 
-  pub upheld : not r ≡ false → b ≡ true
-  upheld h = sym e ∙ not-false r h
+  pub upheld : r ≡ true → b ≡ true
+  upheld h = sym e ∙ h
