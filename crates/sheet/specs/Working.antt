@@ -1,7 +1,6 @@
 -- What the work on a sheet asks for, and what it has done.
-use Rattle.std.specs.Prelude.{◌≡◌, List, ℕ, ◌+◌, ◌*◌, ◌≤◌, ◌<◌, ℤ, length}
+use Rattle.std.specs.Prelude.{◌≡◌, List, ℕ, ◌+◌, ◌*◌, ◌≤◌, ℤ, length}
 use Rattle.whole.specs.Word.{count}
-use Rattle.row.specs.Table.{start}
 use Rattle.elimination_rules.specs.Call.{fuel}
 use Rattle.elimination_rules.specs.General.{Kept}
 use Rattle.elimination.specs.Views.{outcome_of}

@@ -1,5 +1,5 @@
 -- `sheet::check::all_zero` meets its contract. The loop's invariant: what is left to judge is all from i on.
-use Rattle.std.proofs.Common.{sym, ◌∙◌, ◌-◌, arith, eq-eqb, ne_eqb}
+use Rattle.std.proofs.Common.{sym, ◌∙◌, arith, eq-eqb, ne_eqb}
 use Rattle.whole.specs.Bytes.{signed}
 use Rattle.row.specs.Row.{is_zero}
 use Rattle.row.proofs.Loops.{scan_more, scan_stop, scan_end}

@@ -1,5 +1,5 @@
 -- `sheet::check::first_channel` meets its contract.
-use Rattle.std.proofs.Common.{◌-◌, lt-ltb, le-ltb}
+use Rattle.std.proofs.Common.{lt-ltb, le-ltb}
 use Rattle.sheet.proofs.Lowest.{looked_more, looked_stop, looked_all}
 use Rattle.sheet.proofs.check.first_channel.Goals as goal
 

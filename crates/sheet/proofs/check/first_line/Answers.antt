@@ -1,5 +1,5 @@
 -- `sheet::check::first_line` meets its contract.
-use Rattle.std.proofs.Common.{ap, ◌∙◌, ◌+◌, ◌-◌, ◌*◌}
+use Rattle.std.proofs.Common.{ap, ◌∙◌, ◌+◌, ◌*◌}
 use Rattle.sheet_rules.specs.Shape.{line_at}
 use Rattle.sheet_rules.specs.Good.{good_line}
 use Rattle.sheet.specs.Views.{shape_view}

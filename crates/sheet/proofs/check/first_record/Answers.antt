@@ -1,6 +1,4 @@
 -- `sheet::check::first_record` meets its contract.
-use Rattle.std.proofs.Common.{◌-◌}
-use Rattle.sheet_rules.specs.Good.{good_record}
 use Rattle.sheet.proofs.Tests.{refuted, upheld}
 use Rattle.sheet.proofs.Lowest.{looked_more, looked_stop, looked_all}
 use Rattle.sheet.proofs.check.first_record.Goals as goal

@@ -1,5 +1,5 @@
 -- `sheet::check::in_range` meets its contract. The loop's invariant: what is left to judge is all from i on.
-use Rattle.std.proofs.Common.{sym, ap, ◌∙◌, ◌-◌, arith, le-leb, leb, nat_abs, w32}
+use Rattle.std.proofs.Common.{sym, ap, ◌∙◌, arith, le-leb, leb, nat_abs, w32}
 use borrow.Author.Tests.{lt-leb}
 use Rattle.whole.specs.Bytes.{signed}
 use Rattle.whole.proofs.Signed.{read}
@@ -15,11 +15,10 @@ returns-then-size-gt64 c =
     sym (c.loop-i.invariant.1 ∙ scan_stop _ 0 c.args.bytes.now c.loop-i.i (omega arith) (rw (let x = c.exponent in c.size.ensures ∙ ap nat_abs (read w32 x.result x.type_inv ∙ x.ensures)) at (lt-leb _ 64 c.if-size-gt64.true)))
 
 pub loop-i-preserved : goal.loop-i-preserved
-loop-i-preserved c =
-    (
-      omega arith,
-      c.loop-i.invariant.1 ∙ scan_more _ 0 c.args.bytes.now c.loop-i.i (omega arith) (rw (let x = c.exponent in c.size.ensures ∙ ap nat_abs (read w32 x.result x.type_inv ∙ x.ensures)) at (le-leb _ 64 c.if-size-gt64.false)),
-    )
+loop-i-preserved c = (
+  omega arith,
+  c.loop-i.invariant.1 ∙ scan_more _ 0 c.args.bytes.now c.loop-i.i (omega arith) (rw (let x = c.exponent in c.size.ensures ∙ ap nat_abs (read w32 x.result x.type_inv ∙ x.ensures)) at (le-leb _ 64 c.if-size-gt64.false)),
+)
 
 pub returns : goal.returns
 returns c =

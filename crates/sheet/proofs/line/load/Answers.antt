@@ -1,5 +1,5 @@
 -- `sheet::line::load` meets its contract.
-use Rattle.std.proofs.Common.{sym, ◌∙◌, arith}
+use Rattle.std.proofs.Common.{sym, ◌∙◌}
 use Rattle.sheet_rules.proofs.Prefix.{unit_of_lem}
 use Rattle.sheet.proofs.line.load.Goals as goal
 

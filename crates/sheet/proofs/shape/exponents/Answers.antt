@@ -1,5 +1,5 @@
 -- `sheet::shape::exponents` meets its contract. The loop paints the exponents over `out`.
-use Rattle.std.proofs.Common.{refl, sym, ◌∙◌, ◌-◌, arith, pos, w32}
+use Rattle.std.proofs.Common.{refl, sym, ◌∙◌, arith, pos, w32}
 use Rattle.whole.specs.Bytes.{signed}
 use Rattle.whole.proofs.Signed.{read}
 use Rattle.row.proofs.Loops.{always, painted_more, map_at}

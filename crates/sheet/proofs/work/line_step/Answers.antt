@@ -1,5 +1,4 @@
 -- `sheet::work::line_step` meets its contract.
-use Rattle.std.proofs.Common.{true}
 use Rattle.sheet.proofs.Courses.{unit_wide, no_equation, equation_wide, equation_solved}
 use Rattle.sheet.proofs.work.line_step.Goals as goal
 
