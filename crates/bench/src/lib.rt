@@ -1,5 +1,6 @@
 // The C interface: include/bench.h says what each call does.
 #![tactic(auto)]
+
 ghost use Rattle.std.specs.Prelude.{◌≡◌, ◌≢◌, List, ℤ, length};
 ghost use Rattle.elimination_rules.specs.Answer.{unanswered};
 ghost use Rattle.elimination_rules.specs.Call.{eliminated};
