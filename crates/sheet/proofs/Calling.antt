@@ -26,22 +26,22 @@ module _ (s : List ℕ) {c : Checked} (e : checked_sheet s ≡ c) {sh : Shape} (
   numbered : Numbered c
   numbered = subst Numbered e (sheet_numbered s)
 
-  pub check_after : (lent : List ℤ) → check s lent ≡ on_checked (λ n i. refusal_of n i lent) (check_by sh s lent) c
+  pub check_is : (lent : List ℤ) → check s lent ≡ on_checked (λ n i. refusal_of n i lent) (check_by sh s lent) c
   unfolding check
-  check_after lent = rw (h, e) (as_refusal lent _ c numbered)
+  check_is lent = rw (h, e) (as_refusal lent _ c numbered)
 
-  pub line_after : (k : ℕ) (lent : List ℤ) → ask_line s k lent ≡ on_checked (λ n i. refusal_of n i lent) (ask_by sh s sh.lines k k (unit_at sh s k) lent) c
+  pub line_is : (k : ℕ) (lent : List ℤ) → ask_line s k lent ≡ on_checked (λ n i. refusal_of n i lent) (ask_by sh s sh.lines k k (unit_at sh s k) lent) c
   unfolding ask_line
-  line_after k lent = rw (h, e) (as_refusal lent _ c numbered)
+  line_is k lent = rw (h, e) (as_refusal lent _ c numbered)
 
-  pub channel_after : (k : ℕ) (lent : List ℤ)
+  pub channel_is : (k : ℕ) (lent : List ℤ)
       → ask_channel s k lent ≡ on_checked (λ n i. refusal_of n i lent) (ask_by sh s sh.channels k sh.lines (reads sh s k) lent) c
   unfolding ask_channel
-  channel_after k lent = rw (h, e) (as_refusal lent _ c numbered)
+  channel_is k lent = rw (h, e) (as_refusal lent _ c numbered)
 
-  pub lines_after : lines_part s ≡ on_checked (λ n i. []) (take (4 * sh.lines) (drop (lines_at sh) s)) c
+  pub lines_are : lines_part s ≡ on_checked (λ n i. []) (take (4 * sh.lines) (drop (lines_at sh) s)) c
   unfolding lines_part
-  lines_after = rw (h, e)
+  lines_are = rw (h, e)
 
 module _ (s : List ℕ) (e : checked_sheet s ≡ well_formed) where
   pub formed_long : 16 ≤ length s
