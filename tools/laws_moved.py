@@ -11,13 +11,21 @@ import sys
 # What is now in proofs/ of the same name: the names, or '*' for the whole module.
 MOVED = {
     ("elimination_rules", module): "*"
-    for module in "Upright Swap Ways Fall Steps Kept Count Fuel Yield Moves Course Replace Fold Rounds Columns Theorem".split()
+    for module in "Swap Ways Fall Steps Count Fuel Moves Replace Fold Rounds Theorem".split()
 }
 MOVED.update({("sheet_rules", module): "*" for module in "Prefix UnitRows WorkKept Bridge LinesStand PutIn Answers".split()})
 MOVED["whole", "Division"] = (
-    "divided none_of same_quotient same_remainder rounded_down toward_zero size_rem lowered_quotient lowered_remainder kept_quotient"
-    " kept_remainder size_quotient quotient_fits remainder_fits"
+    "divided rounded_down lowered_quotient lowered_remainder kept_quotient kept_remainder size_quotient quotient_fits remainder_fits"
 ).split()
+MOVED["elimination_rules", "Upright"] = (
+    "least_unknown by_pick upright_positive upright_ind length_upright size_upright upright_in_limit"
+).split()
+MOVED["elimination_rules", "Kept"] = (
+    "start_kept again_kept last_kept replaced_off upright_off picked_free TurnKept round_kept"
+).split()
+MOVED["elimination_rules", "Yield"] = "moved dot_moved at_moved moved_other dot_swap yield_same yield_swapped".split()
+MOVED["elimination_rules", "Course"] = "constant_value TurnStands OutcomeStands round_stands solve_stands".split()
+MOVED["elimination_rules", "Columns"] = "length_yielded dot_val val_below val_whole stands_column column_for".split()
 MOVED["elimination_rules", "Units"] = "units_general general_units solvable_units units_solvable clash_units clash_all".split()
 MOVED["elimination_rules", "Checked"] = "verdict checked_answer call_ind answer_checked".split()
 MOVED["elimination_rules", "Demand"] = (

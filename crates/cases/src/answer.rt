@@ -4,7 +4,7 @@ ghost use Rattle.std.specs.Prelude.{◌≡◌, ◌+◌, ◌*◌, ◌≤◌, leng
 use std::io;
 
 // The numbers of an answer: an accepted one has rounds and a mask, and others have a place.
-#[derive(Drop)]
+#[derive(Clone, Copy)]
 pub struct Heard {
     pub number: u64,
     pub place: u64,

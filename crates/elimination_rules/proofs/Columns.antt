@@ -1,21 +1,21 @@
 -- One constant column: what a table that stands for a set S of assignments is, in numbers for the unknowns alone.
-use Rattle.std.specs.Prelude.{◌≡◌, refl, List, [], ◌∷◌, ◌++◌, ℕ, zero, suc, ◌+◌, ◌-◌, ◌≤◌, ◌<◌, length, take, drop, replicate, ℤ, pos, ◌+ℤ◌}
-use Rattle.std.proofs.Common.{sym, ◌∙◌, ap, ap₂, subst, append_assoc, arith, length-append, drop_at, get_or-take}
-use Rattle.std.proofs.lemmas.List.{length-replicate}
-use Rattle.std.proofs.Math.ListN.{get_or-append}
+use Rattle.std.specs.Prelude.{◌≡◌, refl, List, [], ◌∷◌, ◌++◌, ℕ, zero, suc, ◌≤◌, ◌<◌, length, take, drop, ℤ, pos, ◌+ℤ◌}
+use Rattle.std.proofs.Common.{sym, ◌∙◌, ap, ap₂, subst, arith, drop_at, get_or-take}
 use Rattle.whole.specs.Cases.{by_less}
 use Rattle.whole.specs.Word.{bit, by_bit}
-use Rattle.row.specs.Row.{at, dot, single}
+use Rattle.row.specs.Row.{at, dot}
 use Rattle.row.specs.Table.{constants, row_values, Rows}
 use Rattle.row.specs.Values.{none_dot}
-use Rattle.row.specs.Tables.{past, constants_low, constants_high}
+use Rattle.row.specs.Tables.{constants_low, constants_high}
 use Rattle.elimination_rules.specs.General.{Gap, Off, val, values, Column}
-use Rattle.elimination_rules.specs.First.{first_values, at_first, length_first, first_at}
+use Rattle.elimination_rules.specs.First.{first_values, length_first, first_at}
 use Rattle.elimination_rules.specs.Zeros.{dot_below}
-use Rattle.elimination_rules.proofs.Yield.{yield, yield_row}
+use Rattle.elimination_rules.specs.Yield.{yield, yield_row}
 use Rattle.elimination_rules.proofs.Moves.{Stands, dot_off}
-use Rattle.elimination_rules.proofs.Course.{Constant, constant_value}
+use Rattle.elimination_rules.specs.Course.{Constant}
+use Rattle.elimination_rules.proofs.Course.{constant_value}
 use Rattle.elimination_rules.proofs.Replace.{take_past, dot_parts}
+use Rattle.elimination_rules.specs.Columns.{rest, whole, at_whole, constant_whole}
 
 pub length_yielded : (u c w v : ℕ) (t z : List ℤ) → length (values u c w v t z) ≡ v
 unfolding values
@@ -25,24 +25,6 @@ length_yielded u c w (suc v) t z = ap suc (length_yielded u c w v (drop w t) z)
 -- A row in the free unknowns has none of the unknowns that are not used.
 gap_of : (u v f : ℕ) (r : List ℤ) → ((i : ℕ) → bit i f ≡ 1 → i < v) → Off u f r → Gap u v r
 gap_of u v f r b o i h k = by_bit i f (λ e. o i k e) (λ e. absurd (omega (arith, b i e)))
-
--- ---- numbers for the v unknowns as an assignment: theirs, 0 up to u, the constants of column c
-module _ (u v c : ℕ) where
-  abbrev pub rest : List ℤ
-  rest = replicate (u - v) (pos 0) ++ drop u (single c)
-
-  abbrev pub whole : List ℤ → List ℤ
-  whole a = first_values v (at a) ++ rest
-
-  pub at_whole : (a : List ℤ) (i : ℕ) → i < v → at (whole a) i ≡ at a i
-  at_whole a i h = get_or-append (first_values v (at a)) rest (pos 0) i (omega (arith, length_first v (at a))) ∙ at_first v (at a) i h
-
-  pub constant_whole : v ≤ u → (a : List ℤ) → Constant u c (whole a)
-  constant_whole vu a i h =
-      let l : List ℤ = first_values v (at a) in
-      ap (λ x. at x i) (sym (append_assoc l (replicate (u - v) (pos 0)) (drop u (single c))))
-      ∙ past (l ++ replicate (u - v) (pos 0)) (single c) u i
-      (length-append l (replicate (u - v) (pos 0)) ∙ ap₂ ◌+◌ (length_first v (at a)) (length-replicate (u - v) (pos 0)) ∙ omega arith) h
 
 -- Where the constants are those of column c, the product is the value.
 pub dot_val : (u c : ℕ) (r y : List ℤ) → u ≤ c → Constant u c y → dot r y ≡ val u c r y

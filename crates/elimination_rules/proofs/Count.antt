@@ -11,7 +11,8 @@ use Rattle.elimination_rules.specs.Equation.{Outcome, done, clashed, widened, sp
 use Rattle.elimination_rules.specs.General.{Off, Kept}
 use Rattle.elimination_rules.specs.Zeros.{Zero, Below}
 use Rattle.elimination_rules.proofs.Ways.{one_ind}
-use Rattle.elimination_rules.proofs.Kept.{TurnKept, replaced_off, replaced_long, round_kept}
+use Rattle.elimination_rules.specs.Kept.{replaced_long}
+use Rattle.elimination_rules.proofs.Kept.{TurnKept, replaced_off, round_kept}
 
 -- k rounds were behind at the word f, with fuel n for each equation.
 abbrev pub Counted : ℕ → ℕ → ℕ → ℕ → ℕ → ℕ → Type 0

@@ -14,23 +14,14 @@ use Rattle.elimination_rules.specs.Round.{Turn, holds, solved, again, clash, wid
 use Rattle.elimination_rules.specs.Equation.{Outcome, done, clashed, widened, spent, on_turn, solve}
 use Rattle.elimination_rules.specs.Zeros.{Zero, Nonzero, Below, From, in_length, dot_from, zero_everywhere}
 use Rattle.elimination_rules.specs.Divisions.{small_multiple}
-use Rattle.elimination_rules.proofs.Upright.{at_negated, upright_ind, length_upright, upright_positive}
+use Rattle.elimination_rules.specs.Upright.{at_negated}
+use Rattle.elimination_rules.proofs.Upright.{upright_ind, length_upright, upright_positive}
 use Rattle.elimination_rules.proofs.Swap.{length_swap}
 use Rattle.elimination_rules.proofs.Ways.{round_ind}
 use Rattle.elimination_rules.proofs.Steps.{step_ind}
 use Rattle.elimination_rules.proofs.Kept.{picked_free}
 use Rattle.elimination_rules.proofs.Moves.{Stands, again_stands, last_stands, same_stands}
-
--- The constants of column c: 1 there, and 0 in every other column from u on.
-abbrev pub Constant : ℕ → ℕ → List ℤ → Type 0
-Constant u c x = (i : ℕ) → u ≤ i → at x i ≡ at (single c) i
-
--- There is a constant column of which S has no assignment.
-pub record None (u w : ℕ) (S : List ℤ → Type 0) : Type 0 where
-  pub at_column : ℕ
-  pub from : u ≤ at_column
-  pub to : at_column < w
-  pub none : (x : List ℤ) → Constant u at_column x → S x → ⊥
+use Rattle.elimination_rules.specs.Course.{Constant, None}
 
 -- A row with no unknown has its constant for a value.
 pub constant_value : (u c : ℕ) (r x : List ℤ) → Zero (Below u) r → Constant u c x → dot r x ≡ at r c

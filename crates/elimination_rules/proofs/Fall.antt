@@ -13,7 +13,8 @@ use Rattle.row.specs.Tables.{all_at, all_of, all_set}
 use Rattle.elimination_rules.specs.Round.{Turn, holds, solved, again, clash, wide, upright, round}
 use Rattle.elimination_rules.specs.Zeros.{Nonzero, Below, some_size}
 use Rattle.elimination_rules.specs.Divisions.{length_quotients, length_others, length_remainders, remainder_none, remainder_small}
-use Rattle.elimination_rules.proofs.Upright.{least_unknown, Picked, length_upright, size_upright, upright_positive}
+use Rattle.elimination_rules.specs.Upright.{Picked}
+use Rattle.elimination_rules.proofs.Upright.{least_unknown, length_upright, size_upright, upright_positive}
 use Rattle.elimination_rules.proofs.Swap.{length_swapped}
 use Rattle.elimination_rules.proofs.Ways.{turn_ind, round_ind}
 

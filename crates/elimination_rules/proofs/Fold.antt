@@ -12,10 +12,12 @@ use Rattle.row.specs.Tables.{long_take, long_drop, values_start}
 use Rattle.elimination_rules.specs.Equation.{Outcome, done, clashed, widened, spent, one, Verdict, accepted, clash_at, wide_at, spent_all, on_outcome, each}
 use Rattle.elimination_rules.specs.General.{Gap}
 use Rattle.elimination_rules.proofs.Ways.{one_ind}
-use Rattle.elimination_rules.proofs.Kept.{start_kept, replaced_off, replaced_long}
-use Rattle.elimination_rules.proofs.Yield.{yield, yield_row, yield_past}
+use Rattle.elimination_rules.specs.Kept.{replaced_long}
+use Rattle.elimination_rules.proofs.Kept.{start_kept, replaced_off}
+use Rattle.elimination_rules.specs.Yield.{yield, yield_row, yield_past}
 use Rattle.elimination_rules.proofs.Moves.{Stands, more_stands, stands_for}
-use Rattle.elimination_rules.proofs.Course.{None, OutcomeStands, solve_stands}
+use Rattle.elimination_rules.specs.Course.{None}
+use Rattle.elimination_rules.proofs.Course.{OutcomeStands, solve_stands}
 use Rattle.elimination_rules.proofs.Replace.{replaced_value}
 
 -- "It starts with unknown j equal to itself": every assignment.

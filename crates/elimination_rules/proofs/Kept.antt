@@ -1,20 +1,22 @@
 -- The table is kept: what each move of the elimination does to columns and lengths, and how a round counts.
-use Rattle.std.specs.Prelude.{◌≡◌, ◌≢◌, true, List, ℕ, suc, ◌*◌, ◌≤◌, ◌<◌, length, take, ℤ, pos, neg_ℤ}
+use Rattle.std.specs.Prelude.{◌≡◌, true, List, ℕ, suc, ◌≤◌, ◌<◌, length, take, ℤ, pos, neg_ℤ}
 use Rattle.std.proofs.Common.{sym, ◌∙◌, ap, subst, arith, length-take}
 use Rattle.whole.specs.Cases.{by_less}
 use Rattle.whole.specs.Division.{Division}
-use Rattle.whole.specs.Word.{bit, cleared, first_set, count, by_bit, bit_cleared_same, bit_cleared_other, bit_first_below, bit_first_above, count_cleared}
+use Rattle.whole.specs.Word.{bit, cleared, first_set, count, by_bit, bit_first_below, bit_first_above, count_cleared}
 use Rattle.row.specs.Row.{at, all_in_limit}
 use Rattle.row.specs.Table.{add_rows, constants, replaced, start}
 use Rattle.row.specs.Values.{single_other}
-use Rattle.row.specs.Tables.{rows_map, rows_each, at_itself, length_start, rows_start, start_in_limit, length_added, zero_added, length_constants, constants_low}
+use Rattle.row.specs.Tables.{rows_map, rows_each, at_itself, length_start, rows_start, start_in_limit, zero_added, constants_low}
 use Rattle.elimination_rules.specs.Round.{swap, Turn, holds, solved, again, clash, wide, upright, round}
 use Rattle.elimination_rules.specs.General.{Off, Kept}
 use Rattle.elimination_rules.specs.Zeros.{Zero, Nonzero, Below, sized}
-use Rattle.elimination_rules.proofs.Upright.{Picked, at_negated, upright_ind, length_upright, size_upright, upright_positive}
+use Rattle.elimination_rules.specs.Upright.{Picked, at_negated}
+use Rattle.elimination_rules.proofs.Upright.{upright_ind, length_upright, size_upright, upright_positive}
 use Rattle.elimination_rules.proofs.Swap.{swapped, length_swap, length_swapped, off_swap, off_gone, swap_stays}
 use Rattle.elimination_rules.proofs.Ways.{round_ind}
 use Rattle.elimination_rules.proofs.Steps.{Quotients, step_ind}
+use Rattle.elimination_rules.specs.Kept.{still_free}
 
 -- "It starts with unknown j equal to itself, all V columns free."
 pub start_kept : (u v w : ℕ) → v ≤ w → Kept u v w (start w v) (first_set v)
@@ -25,13 +27,6 @@ start_kept u v w vw = record {
   long = length_start w 0 v;
   limit = start_in_limit w 0 v;
 }
-
--- A bit that is left after one is cleared was set, and is another.
-pub still_free : (f j i : ℕ) → bit i (cleared f j) ≡ 1 → (bit i f ≡ 1) × (i ≢ j)
-still_free f j i b = (sym (bit_cleared_other f j i other) ∙ b, other)
-  where
-    other : i ≢ j
-    other e = let z : bit j (cleared f j) ≡ 1 = subst (λ k. bit k (cleared f j) ≡ 1) e b in omega (arith, bit_cleared_same f j)
 
 module _ (u v w j : ℕ) (q t : List ℤ) (f : ℕ) (fits : all_in_limit (swapped w v j q t) ≡ true) (k : Kept u v w t f) where
   swapped_kept : (g : ℕ) → length q ≡ w → ((i : ℕ) → bit i g ≡ 1 → bit i f ≡ 1)
@@ -57,11 +52,6 @@ replaced_off u v w t e f le vw k i a b =
     ap (λ n. at (add_rows n (take v e) t (constants u e)) i) le
     ∙ zero_added w v i (take v e) t (constants u e) (length-take v e ∙ omega arith) (constants_low u e i a)
     (rows_map (Off u f) (λ r. at r i ≡ pos 0) (λ r o. o i a b) w v t k.zero_else)
-
-pub replaced_long : (u v w : ℕ) (t e : List ℤ) → length e ≡ w → v ≤ w → u ≤ w → length t ≡ v * w → length (replaced u v t e) ≡ w
-replaced_long u v w t e le vw uw lt =
-    ap (λ n. length (add_rows n (take v e) t (constants u e))) le
-    ∙ length_added w v (take v e) t (constants u e) (length-take v e ∙ omega arith) lt (length_constants u e (omega arith) ∙ le)
 
 pub upright_off : (u f : ℕ) (e : List ℤ) (j : ℕ) → Off u f e → Off u f (upright e j)
 upright_off u f e j o i a b = upright_ind e j (λ l. at l i ≡ pos 0) (at_negated e i ∙ ap neg_ℤ (o i a b)) (o i a b)

@@ -13,8 +13,10 @@ use Rattle.elimination_rules.specs.General.{Off, Kept}
 use Rattle.elimination_rules.specs.Zeros.{absent}
 use Rattle.elimination_rules.proofs.Swap.{swapped, off_swap}
 use Rattle.elimination_rules.proofs.Steps.{Quotients}
-use Rattle.elimination_rules.proofs.Kept.{still_free, again_kept, last_kept}
-use Rattle.elimination_rules.proofs.Yield.{moved, dot_moved, at_moved, moved_other, dot_swap, yield, yield_past, yield_same, yield_swapped}
+use Rattle.elimination_rules.specs.Kept.{still_free}
+use Rattle.elimination_rules.proofs.Kept.{again_kept, last_kept}
+use Rattle.elimination_rules.specs.Yield.{yield, yield_past}
+use Rattle.elimination_rules.proofs.Yield.{moved, dot_moved, at_moved, moved_other, dot_swap, yield_same, yield_swapped}
 
 -- The assignments of S are what t yields of the choices at which e is zero; `back` finds the choice.
 pub record Stands (u v w : ℕ) (S : List ℤ → Type 0) (t e : List ℤ) (f : ℕ) : Type 0 where

@@ -10,7 +10,7 @@ use Rattle.row.specs.Values.{at_plus, plus_dot, same_dot}
 use Rattle.row.specs.Tables.{constants_low, constants_high, dot_added}
 use Rattle.elimination_rules.specs.General.{Gap}
 use Rattle.elimination_rules.specs.Zeros.{Zero, From, dot_below, dot_from}
-use Rattle.elimination_rules.proofs.Yield.{yield, yield_row, yield_past}
+use Rattle.elimination_rules.specs.Yield.{yield, yield_row, yield_past}
 
 pub take_past : (v : ℕ) (e : List ℤ) → Zero (From v) (take v e)
 take_past v e i h = get_or-eq_default (take v e) (pos 0) (omega (arith, length-take v e))

@@ -12,7 +12,8 @@ use Rattle.elimination_rules.proofs.Kept.{start_kept}
 use Rattle.elimination_rules.proofs.Moves.{Stands}
 use Rattle.elimination_rules.proofs.Fold.{WithAll, Clash, VerdictStands, each_stands, start_stands}
 use Rattle.elimination_rules.proofs.Rounds.{each_kept}
-use Rattle.elimination_rules.proofs.Columns.{whole, constant_whole, val_whole, stands_column, column_for}
+use Rattle.elimination_rules.specs.Columns.{whole, constant_whole}
+use Rattle.elimination_rules.proofs.Columns.{val_whole, stands_column, column_for}
 
 -- Every assignment.
 abbrev Any : List ℤ → Type 0

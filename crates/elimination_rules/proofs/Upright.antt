@@ -2,7 +2,7 @@
 use Rattle.std.specs.Prelude.{◌≡◌, refl, true, List, ℕ, ◌≤◌, ◌<◌, leb, length, take, ◌≤ℤ◌, ◌<ℤ◌, ℤ, pos, neg_ℤ, nat_abs}
 use Rattle.std.proofs.Common.{sym, ◌∙◌, ap, subst, arith, length-take, get_or-take}
 use Rattle.std.proofs.lemmas.List.{length-map}
-use Rattle.std.proofs.Math.ListN.{get_or-map, get_or-eq_default}
+use Rattle.std.proofs.Math.ListN.{get_or-eq_default}
 use Rattle.std.specs.Int.Signed.{lt_z}
 use Rattle.whole.specs.Cases.{by_test, by_less}
 use Rattle.whole.specs.Difference.{differences, as_difference}
@@ -15,6 +15,7 @@ use Rattle.row.specs.Smaller.{Least, least}
 use Rattle.row.specs.Tables.{all_at, all_of}
 use Rattle.elimination_rules.specs.Round.{upright}
 use Rattle.elimination_rules.specs.Zeros.{Zero, Below}
+use Rattle.elimination_rules.specs.Upright.{Picked, at_negated}
 
 -- ---- the pick, said of the equation: it is the least of its unknowns
 module _ (u : ℕ) (e : List ℤ) where
@@ -42,12 +43,6 @@ module _ (u : ℕ) (e : List ℤ) where
   pub least_unknown : Least e u (smallest (take u e))
   least_unknown = least_by (smallest (take u e)) (least (take u e))
 
--- The round picks j.
-pub record Picked (u : ℕ) (e : List ℤ) (j : ℕ) : Type 0 where
-  pub below : j < u
-  pub some : 0 < nat_abs (at e j)
-  pub size : size_of (smallest (take u e)) ≡ nat_abs (at e j)
-
 -- Either there is nothing to pick, or that is picked.
 pub by_pick : (u : ℕ) (e : List ℤ) (P : Pick → Type 0) → (Zero (Below u) e → P nothing) → ((j a : ℕ) → Picked u e j → P (column j a)) → P (smallest (take u e))
 by_pick u e P f g = by (smallest (take u e)) refl (least_unknown u e)
@@ -57,9 +52,6 @@ by_pick u e P f g = by (smallest (take u e)) refl (least_unknown u e)
     by (column j a) s l = g j a (record { below = l.0; some = subst (λ n. 0 < n) (sym l.1) l.2; size = ap size_of s ∙ sym l.1 })
 
 -- ---- negated or not
-pub at_negated : (e : List ℤ) (i : ℕ) → at (negated e) i ≡ neg_ℤ (at e i)
-at_negated e i = get_or-map neg_ℤ e i (pos 0)
-
 flipped : (x : ℤ) → x <ℤ pos 0 → pos 0 <ℤ neg_ℤ x
 flipped x = rw (as_difference x) (simp differences (omega arith))
 

@@ -1,17 +1,17 @@
 -- What a table makes of a choice, and how a choice moves when an unknown is replaced: a row with j replaced has, at a choice, the
 -- value that the row had at the choice moved. This holds for any q.
-use Rattle.std.specs.Prelude.{◌≡◌, refl, ◌≢◌, List, [], ◌∷◌, ◌++◌, ℕ, zero, suc, ◌+◌, ◌*◌, ◌≤◌, ◌<◌, length, drop, ℤ, pos, negsuc, ◌+ℤ◌, ◌-ℤ◌, ◌*ℤ◌}
+use Rattle.std.specs.Prelude.{◌≡◌, refl, ◌≢◌, List, [], ◌∷◌, ◌++◌, ℕ, zero, suc, ◌+◌, ◌*◌, ◌<◌, length, drop, ℤ, pos, negsuc, ◌+ℤ◌, ◌-ℤ◌, ◌*ℤ◌}
 use Rattle.std.proofs.Common.{sym, ◌∙◌, ap₂, arith, get_or-drop}
 use Rattle.std.proofs.Math.Path.{ap}
-use Rattle.std.proofs.Math.ListN.{get_or-append}
 use Rattle.std.proofs.Math.Seq.{drop-nil}
 use Rattle.whole.specs.Identity.{identity, terms}
 use Rattle.row.specs.Row.{at, plus, dot, single}
 use Rattle.row.specs.Table.{row_values}
 use Rattle.row.specs.Values.{at_plus, plus_none, dot_plus, less_dot, dot_same, dot_single, single_other}
-use Rattle.row.specs.Tables.{length_values, values_same, values_each, past}
+use Rattle.row.specs.Tables.{values_same, values_each}
 use Rattle.elimination_rules.specs.Round.{swap}
 use Rattle.elimination_rules.proofs.Swap.{swapped, length_swap}
+use Rattle.elimination_rules.specs.Yield.{yield}
 
 -- ---- c times the value of q added in column j
 unfoldable pub moved : ℤ → List ℤ → ℕ → List ℤ → List ℤ
@@ -37,17 +37,6 @@ dot_swap q j r z = less_dot (at r j) r q z ∙ law (dot r z) (at r j) (dot q z) 
   where
     law : (d a e : ℤ) → d -ℤ a *ℤ e ≡ d +ℤ negsuc 0 *ℤ e *ℤ a
     law d a e = identity (d ∷ a ∷ e ∷ []) (search terms depth 20) (search terms depth 20) tt
-
--- ---- each unknown its row's value, and what has no row as it is
-abbrev pub yield : ℕ → ℕ → List ℤ → List ℤ → List ℤ
-yield w v t z = row_values w v t z ++ drop v z
-
-module _ (w v : ℕ) (t z : List ℤ) (i : ℕ) where
-  pub yield_row : i < v → at (yield w v t z) i ≡ at (row_values w v t z) i
-  yield_row h = get_or-append (row_values w v t z) (drop v z) (pos 0) i (omega (arith, length_values w v t z))
-
-  pub yield_past : v ≤ i → at (yield w v t z) i ≡ at z i
-  yield_past h = past (row_values w v t z) z v i (length_values w v t z) h
 
 append_same : (l y z : List ℤ) → ((i : ℕ) → at y i ≡ at z i) → (i : ℕ) → at (l ++ y) i ≡ at (l ++ z) i
 append_same [] y z h i = h i

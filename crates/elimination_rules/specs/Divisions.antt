@@ -6,7 +6,7 @@ use Rattle.std.proofs.Math.ListN.{get_or-map}
 use Rattle.std.proofs.Math.IntN.{zero-*ℤ, *ℤ_comm}
 use Rattle.whole.specs.Ring.{size_mul, size_zero, equal_by_difference, one_mul}
 use Rattle.whole.specs.Division.{Division}
-use Rattle.whole.proofs.Division.{none_of}
+use Rattle.whole.specs.Division.{none_of}
 use Rattle.whole.specs.Identity.{identity, terms}
 use Rattle.row.specs.Row.{at, plus, less}
 use Rattle.row.specs.Divide.{quotients_by, remainders_by}

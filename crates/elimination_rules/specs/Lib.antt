@@ -10,3 +10,8 @@ pub mod Special
 pub mod Units
 pub mod Checked
 pub mod Demand
+pub mod Upright
+pub mod Yield
+pub mod Kept
+pub mod Course
+pub mod Columns

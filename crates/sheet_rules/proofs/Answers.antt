@@ -11,7 +11,7 @@ use Rattle.elimination_rules.specs.Equation.{Verdict, accepted, clash_at, wide_a
 use Rattle.elimination_rules.specs.Answer.{Answer, heard, unanswered, refuses, accepts}
 use Rattle.elimination_rules.specs.Call.{on_accepted, on_verdict}
 use Rattle.elimination_rules.specs.General.{val}
-use Rattle.elimination_rules.proofs.Kept.{replaced_long}
+use Rattle.elimination_rules.specs.Kept.{replaced_long}
 use Rattle.elimination_rules.specs.Units.{Units, in_base, yields}
 use Rattle.sheet_rules.specs.Shape.{Shape, shape_of}
 use Rattle.sheet_rules.specs.Checks.{Checked, refused, well_formed, on_checked, first_failing, checks, checked_sheet}

@@ -13,7 +13,8 @@ use Rattle.row.specs.Values.{dot_none, dot_comm, dot_zero, same_dot, dot_single,
 use Rattle.row.specs.Tables.{at_zeros, at_itself}
 use Rattle.elimination_rules.specs.General.{val}
 use Rattle.elimination_rules.specs.First.{first_values, at_first}
-use Rattle.elimination_rules.proofs.Columns.{whole, at_whole, val_whole}
+use Rattle.elimination_rules.specs.Columns.{whole, at_whole}
+use Rattle.elimination_rules.proofs.Columns.{val_whole}
 use Rattle.elimination_rules.specs.Units.{Units, in_base}
 use Rattle.sheet_rules.specs.Shape.{Shape, unit_record, channel, line}
 use Rattle.sheet_rules.specs.Good as G

@@ -10,9 +10,11 @@ use Rattle.whole.proofs.Division.{rounded_down}
 use Rattle.elimination_rules.specs.Equation.{Outcome, done, clashed, widened, spent, one, Verdict, accepted, clash_at}
 use Rattle.elimination_rules.specs.Call.{fuel}
 use Rattle.elimination_rules.proofs.Moves.{Stands, stands_for}
-use Rattle.elimination_rules.proofs.Course.{Constant, None, OutcomeStands}
+use Rattle.elimination_rules.specs.Course.{Constant, None}
+use Rattle.elimination_rules.proofs.Course.{OutcomeStands}
 use Rattle.elimination_rules.proofs.Fold.{With, one_stands, one_clash, start_stands}
-use Rattle.elimination_rules.proofs.Columns.{whole, constant_whole, stands_column}
+use Rattle.elimination_rules.specs.Columns.{whole, constant_whole}
+use Rattle.elimination_rules.proofs.Columns.{stands_column}
 use Rattle.elimination_rules.specs.Units.{Units, in_base, yields, MostGeneral}
 use Rattle.elimination_rules.proofs.Units.{units_general}
 use Rattle.sheet_rules.specs.Shape.{Shape}

@@ -7,9 +7,10 @@ use Rattle.row.specs.Table.{replaced, row_values, Rows}
 use Rattle.elimination_rules.specs.General.{Off, val, values, Kept}
 use Rattle.elimination_rules.specs.First.{first_values, first_at, length_first}
 use Rattle.elimination_rules.proofs.Kept.{replaced_off}
-use Rattle.elimination_rules.proofs.Yield.{yield}
+use Rattle.elimination_rules.specs.Yield.{yield}
 use Rattle.elimination_rules.proofs.Replace.{replaced_value}
-use Rattle.elimination_rules.proofs.Columns.{rest, whole, val_whole, length_yielded}
+use Rattle.elimination_rules.specs.Columns.{rest, whole}
+use Rattle.elimination_rules.proofs.Columns.{val_whole, length_yielded}
 use Rattle.elimination_rules.specs.Units.{Units, in_base, yields}
 use Rattle.sheet_rules.specs.Shape.{Shape}
 use Rattle.sheet_rules.specs.Formed.{Formed}

@@ -6,14 +6,11 @@ use Rattle.std.specs.Int.{Width}
 use Rattle.whole.specs.Difference.{differences, as_difference}
 use Rattle.whole.specs.Ring.{size_mul, size_neg, size_zero, equal_by_difference}
 use Rattle.whole.specs.Identity.{identity, terms}
-use Rattle.whole.specs.Division.{quotient, remainder, Divided, Division}
+use Rattle.whole.specs.Division.{quotient, remainder, Divided, Division, above, same_quotient, same_remainder, toward_zero, size_rem}
 
 -- ---- the quotient and the remainder are what the document says, and the only ones
 back : (x q p : ℤ) → x ≡ q *ℤ p +ℤ (x -ℤ q *ℤ p)
 back x q p = identity (x ∷ q ∷ p ∷ []) (search terms depth 20) (search terms depth 20) tt
-
-above : (n : ℕ) → pos 0 <ℤ pos n → 0 < n
-above n = simp differences (omega arith)
 
 pub divided : (x p : ℤ) → pos 0 <ℤ p → Divided x p (quotient x p) (remainder x p)
 unfolding quotient
@@ -33,28 +30,6 @@ divided (negsuc a) (pos b) h =
     }
 divided x (negsuc b) h = absurd h.lt
 
-apart : (x p q r s t : ℤ) → x ≡ q *ℤ p +ℤ r → x ≡ s *ℤ p +ℤ t → (q -ℤ s) *ℤ p ≡ t -ℤ r
-apart x p q r s t = rw (as_difference x, as_difference p, as_difference q, as_difference r, as_difference s, as_difference t) (simp differences (omega arith))
-
-close_by : (p r t : ℤ) → pos 0 ≤ℤ r → r <ℤ p → pos 0 ≤ℤ t → t <ℤ p → nat_abs (t -ℤ r) < nat_abs p
-close_by p r t = rw (as_difference p, as_difference r, as_difference t) (simp differences (omega arith))
-
-pub none_of : (m n : ℕ) → m * n < n → m ≡ 0
-none_of zero n h = refl
-none_of (suc m) n h = absurd (omega arith)
-
-pub same_quotient : {x p q r s t : ℤ} → Divided x p q r → Divided x p s t → q ≡ s
-same_quotient {x} {p} {q} {r} {s} {t} d e =
-    let h : nat_abs (t -ℤ r) < nat_abs p = close_by p r t d.low d.high e.low e.high in
-    let k : nat_abs (q -ℤ s) * nat_abs p ≡ nat_abs (t -ℤ r) = sym (size_mul (q -ℤ s) p) ∙ ap nat_abs (apart x p q r s t d.whole e.whole) in
-    (equal_by_difference q s).0 (size_zero (q -ℤ s) (none_of (nat_abs (q -ℤ s)) (nat_abs p) (omega arith)))
-
-rest_of : (x p q r t : ℤ) → x ≡ q *ℤ p +ℤ r → x ≡ q *ℤ p +ℤ t → r ≡ t
-rest_of x p q r t = rw (as_difference x, as_difference p, as_difference q, as_difference r, as_difference t) (simp differences (omega arith))
-
-pub same_remainder : {x p q r s t : ℤ} → Divided x p q r → Divided x p s t → r ≡ t
-same_remainder {x} {p} {q} {r} {s} {t} d e = rest_of x p q r t d.whole (rw (same_quotient d e) e.whole)
-
 small_of : (x p q r : ℤ) → x ≡ q *ℤ p +ℤ r → pos 0 ≤ℤ r → r <ℤ p → nat_abs (x -ℤ q *ℤ p) < nat_abs p
 small_of x p q r = rw (as_difference x, as_difference p, as_difference q, as_difference r) (simp differences (omega arith))
 
@@ -62,17 +37,7 @@ small_of x p q r = rw (as_difference x, as_difference p, as_difference q, as_dif
 pub rounded_down : Division quotient
 rounded_down = record { small = λ x p h. let d = divided x p h in small_of x p (quotient x p) (remainder x p) d.whole d.low d.high }
 
--- ---- the machine's division, toward zero, and how the other is made of it
-pub toward_zero : (x p : ℤ) → pos 0 <ℤ p → x ≡ quot_z x p *ℤ p +ℤ rem_z x p
-toward_zero (pos a) (pos b) h = simp differences (omega (arith, div-add-mod' a b))
-toward_zero (negsuc a) (pos b) h = simp differences (omega (arith, div-add-mod' (suc a) b))
-toward_zero x (negsuc b) h = absurd h.lt
-
-pub size_rem : (x p : ℤ) → pos 0 <ℤ p → nat_abs (rem_z x p) < nat_abs p
-size_rem (pos a) (pos b) h = mod-lt a (above b h)
-size_rem (negsuc a) (pos b) h = let k : 0 < b = above b h in simp size_neg (mod-lt (suc a) k)
-size_rem x (negsuc b) h = absurd h.lt
-
+-- ---- how the other is made of the machine's
 down_of : (x p q r : ℤ) → x ≡ q *ℤ p +ℤ r → nat_abs r < nat_abs p → pos 0 <ℤ p → r <ℤ pos 0 → (x ≡ (q -ℤ pos 1) *ℤ p +ℤ (r +ℤ p)) × (pos 0 ≤ℤ (r +ℤ p)) × ((r +ℤ p) <ℤ p)
 down_of x p q r = rw (as_difference x, as_difference p, as_difference q, as_difference r) (simp differences (omega arith))
 

@@ -1,4 +1,5 @@
 -- `sheet::work::solve_lines` meets its contract. The loop's invariant: what the rest of the lines comes to, from the table, the rounds and
+-- the word so far, is what all of them come to; the rooms keep their lengths.
 use Rattle.std.proofs.Common.{refl, ◌∙◌, arith}
 use Rattle.sheet.proofs.Courses.{lining_none, lining_end, lining_clash, lining_wide, lining_more}
 use Rattle.sheet.proofs.work.solve_lines.Goals as goal
