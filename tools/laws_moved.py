@@ -9,28 +9,39 @@ import re
 import sys
 
 # What is now in proofs/ of the same name: the names, or '*' for the whole module.
-MOVED = {
-    ("elimination_rules", module): "*"
-    for module in "Swap Ways Fall Steps Count Fuel Moves Replace Fold Rounds Theorem".split()
-}
-MOVED.update({("sheet_rules", module): "*" for module in "Prefix UnitRows WorkKept Bridge LinesStand PutIn Answers".split()})
+MOVED = {("elimination_rules", module): "*" for module in "Swap Ways Rounds".split()}
 MOVED["whole", "Division"] = (
     "divided rounded_down lowered_quotient lowered_remainder kept_quotient kept_remainder size_quotient quotient_fits remainder_fits"
 ).split()
-MOVED["elimination_rules", "Upright"] = (
-    "least_unknown by_pick upright_positive upright_ind length_upright size_upright upright_in_limit"
+MOVED["elimination_rules", "Upright"] = "upright_positive upright_ind length_upright size_upright upright_in_limit".split()
+MOVED["elimination_rules", "Fall"] = (
+    "Remains Falls falls again_remains again_smaller again_some again_long again_in_limit round_tabled holds_table solved_tabled"
+    " again_tabled"
 ).split()
-MOVED["elimination_rules", "Kept"] = (
-    "start_kept again_kept last_kept replaced_off upright_off picked_free TurnKept round_kept"
-).split()
-MOVED["elimination_rules", "Yield"] = "moved dot_moved at_moved moved_other dot_swap yield_same yield_swapped".split()
-MOVED["elimination_rules", "Course"] = "constant_value TurnStands OutcomeStands round_stands solve_stands".split()
-MOVED["elimination_rules", "Columns"] = "length_yielded dot_val val_below val_whole stands_column column_for".split()
-MOVED["elimination_rules", "Units"] = "units_general general_units solvable_units units_solvable clash_units clash_all".split()
+MOVED["elimination_rules", "Steps"] = "Steps step_ind".split()
+MOVED["elimination_rules", "Kept"] = "again_kept last_kept upright_off round_kept".split()
+MOVED["elimination_rules", "Count"] = "solve_kept one_outcome one_kept".split()
+MOVED["elimination_rules", "Fuel"] = "solve_ends one_ended one_ends".split()
+MOVED["elimination_rules", "Yield"] = "dot_swap yield_swapped".split()
+MOVED["elimination_rules", "Moves"] = "again_stands last_stands".split()
+MOVED["elimination_rules", "Course"] = "TurnStands OutcomeStands round_stands solve_stands".split()
+MOVED["elimination_rules", "Fold"] = "one_stands one_clash VerdictStands each_stands OutcomeKeeps VerdictKeeps each_keeps".split()
+MOVED["elimination_rules", "Theorem"] = "elimination_is rounds_fit".split()
 MOVED["elimination_rules", "Checked"] = "verdict checked_answer call_ind answer_checked".split()
 MOVED["elimination_rules", "Demand"] = (
     "accepts_general clash_first clash_exactly accepts_exactly answered accepted_call rounds_call clash_call clash_call_exactly"
     " accepts_call_exactly answered_call special_call"
+).split()
+MOVED["sheet_rules", "Prefix"] = "length_units unit_of_lem unit_long".split()
+MOVED["sheet_rules", "UnitRows"] = "units_are reads_fits unit_fits equations_fit".split()
+MOVED["sheet_rules", "WorkKept"] = (
+    "line_ind LineKeeps WorkKeeps work_ind solved_ind LinesKept line_kept line_more start_kept_lines solved_kept solved_ends"
+).split()
+MOVED["sheet_rules", "Bridge"] = "reading_value line_value line_val line_unit_by line_agrees".split()
+MOVED["sheet_rules", "LinesStand"] = "LinesZero LineClash solved_general solved_clash".split()
+MOVED["sheet_rules", "Answers"] = (
+    "Accepted Asked check_ind ask_ind check_accepted line_asked channel_asked check_clash check_is check_answered line_answered"
+    " channel_answered asked_unit"
 ).split()
 MOVED["sheet_rules", "Demand3"] = (
     "most_general every_choice_agrees table_in_limit rounds_fit line_is channel_is clash_place clash_exactly line_in_limit"

@@ -30,10 +30,11 @@ use Rattle.whole.specs.Place.{Found, place, nowhere, on_found}
 use Rattle.elimination_rules.specs.Call.{unused, first_used, fuel, on_verdict, eliminated}
 use Rattle.elimination_rules.specs.General.{Kept}
 use Rattle.elimination_rules.specs.Zeros.{sized, in_length}
-use Rattle.elimination_rules.proofs.Upright.{least_unknown, length_upright}
+use Rattle.elimination_rules.specs.Upright.{least_unknown}
+use Rattle.elimination_rules.proofs.Upright.{length_upright}
 use Rattle.elimination_rules.proofs.Ways.{turn_ind, round_ind}
 use Rattle.elimination_rules.proofs.Fall.{again_remains, again_tabled}
-use Rattle.elimination_rules.proofs.Kept.{start_kept}
+use Rattle.elimination_rules.specs.Kept.{start_kept}
 use Rattle.elimination_rules.proofs.Count.{one_kept}
 use Rattle.elimination.specs.Requires.{Ready, Countable, smallest_size, Placed, Lined}
 use Rattle.elimination.specs.Heard.{wanted_of}

@@ -14,7 +14,7 @@ use Rattle.row.specs.Judged.{judged, on_judged, judged_of}
 use Rattle.row.specs.Smallest.{column, smallest}
 use Rattle.row.specs.Smaller.{Least}
 use Rattle.elimination_rules.specs.Round.{swaps, solved, again, clash, wide, turn}
-use Rattle.elimination_rules.proofs.Upright.{least_unknown}
+use Rattle.elimination_rules.specs.Upright.{least_unknown}
 use Rattle.elimination.specs.Requires.{Swappable, Ready, Picked}
 use Rattle.elimination.specs.Divided.{Divided}
 

@@ -2,27 +2,18 @@
 -- So n rounds for each bit that is set, and those behind, never grow in sum.
 use Rattle.std.specs.Prelude.{◌≡◌, refl, List, length, ℤ}
 use Rattle.std.proofs.Common.{subst, mul-suc, arith}
-use Prim.Native.Nat.{ℕ, zero, suc, ◌+◌, ◌*◌, ◌≤◌, ◌<◌}
+use Prim.Native.Nat.{ℕ, zero, suc, ◌+◌, ◌≤◌, ◌<◌}
 use Rattle.whole.specs.Division.{Division}
 use Rattle.whole.specs.Word.{count}
 use Rattle.row.specs.Table.{replaced}
 use Rattle.elimination_rules.specs.Round.{Turn, holds, solved, again, clash, wide, round}
-use Rattle.elimination_rules.specs.Equation.{Outcome, done, clashed, widened, spent, on_turn, solve, one}
+use Rattle.elimination_rules.specs.Equation.{Outcome, done, on_turn, solve, one}
 use Rattle.elimination_rules.specs.General.{Off, Kept}
 use Rattle.elimination_rules.specs.Zeros.{Zero, Below}
 use Rattle.elimination_rules.proofs.Ways.{one_ind}
-use Rattle.elimination_rules.specs.Kept.{replaced_long}
-use Rattle.elimination_rules.proofs.Kept.{TurnKept, replaced_off, round_kept}
-
--- k rounds were behind at the word f, with fuel n for each equation.
-abbrev pub Counted : ℕ → ℕ → ℕ → ℕ → ℕ → ℕ → Type 0
-Counted v n k f k' f' = k' + n * count v f' ≤ k + n * count v f
-
-abbrev pub OutcomeKept : ℕ → ℕ → ℕ → ℕ → ℕ → ℕ → Outcome → Type 0
-OutcomeKept u v w n k f (done t' k' f') = Kept u v w t' f' × Counted v n k f k' f'
-OutcomeKept u v w n k f clashed = Unit {0}
-OutcomeKept u v w n k f widened = Unit {0}
-OutcomeKept u v w n k f spent = Unit {0}
+use Rattle.elimination_rules.specs.Kept.{replaced_long, TurnKept, replaced_off}
+use Rattle.elimination_rules.proofs.Kept.{round_kept}
+use Rattle.elimination_rules.specs.Count.{Counted, OutcomeKept}
 
 module _ {quo : ℤ → ℤ → ℤ} (d : Division quo) (n u v w : ℕ) where
   -- ---- one equation, from its K-th round on

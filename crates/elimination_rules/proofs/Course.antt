@@ -7,25 +7,22 @@ use Rattle.whole.specs.Difference.{differences, as_difference}
 use Rattle.whole.specs.Division.{Division}
 use Rattle.whole.specs.Identity.{identity, terms}
 use Rattle.whole.specs.Ring.{minus_one_mul, no_divisors}
-use Rattle.row.specs.Row.{at, dot, single, less}
+use Rattle.row.specs.Row.{at, dot, less}
 use Rattle.row.specs.Divide.{negated}
-use Rattle.row.specs.Values.{none_dot, dot_zero, dot_single, dot_times, less_dot, length_plus}
+use Rattle.row.specs.Values.{none_dot, dot_zero, dot_times, less_dot, length_plus}
 use Rattle.elimination_rules.specs.Round.{Turn, holds, solved, again, clash, wide, upright, round}
 use Rattle.elimination_rules.specs.Equation.{Outcome, done, clashed, widened, spent, on_turn, solve}
-use Rattle.elimination_rules.specs.Zeros.{Zero, Nonzero, Below, From, in_length, dot_from, zero_everywhere}
+use Rattle.elimination_rules.specs.Zeros.{Zero, Nonzero, Below, From, in_length, zero_everywhere}
 use Rattle.elimination_rules.specs.Divisions.{small_multiple}
 use Rattle.elimination_rules.specs.Upright.{at_negated}
 use Rattle.elimination_rules.proofs.Upright.{upright_ind, length_upright, upright_positive}
 use Rattle.elimination_rules.proofs.Swap.{length_swap}
 use Rattle.elimination_rules.proofs.Ways.{round_ind}
 use Rattle.elimination_rules.proofs.Steps.{step_ind}
-use Rattle.elimination_rules.proofs.Kept.{picked_free}
-use Rattle.elimination_rules.proofs.Moves.{Stands, again_stands, last_stands, same_stands}
-use Rattle.elimination_rules.specs.Course.{Constant, None}
-
--- A row with no unknown has its constant for a value.
-pub constant_value : (u c : ℕ) (r x : List ℤ) → Zero (Below u) r → Constant u c x → dot r x ≡ at r c
-constant_value u c r x z k = dot_from u r x (single c) z k ∙ dot_single r c
+use Rattle.elimination_rules.specs.Kept.{picked_free}
+use Rattle.elimination_rules.specs.Moves.{Stands, same_stands}
+use Rattle.elimination_rules.proofs.Moves.{again_stands, last_stands}
+use Rattle.elimination_rules.specs.Course.{Constant, None, constant_value}
 
 positive_not_zero : (p : ℤ) → pos 0 <ℤ p → p ≢ pos 0
 positive_not_zero p = rw (as_difference p) (simp differences (omega arith))

@@ -9,13 +9,13 @@ use Rattle.elimination_rules.specs.Equation.{Verdict, accepted, clash_at, wide_a
 use Rattle.elimination_rules.specs.Answer.{Answer, heard, unanswered, refuses}
 use Rattle.elimination_rules.specs.Call.{fuel, on_verdict, eliminated_by, eliminated}
 use Rattle.elimination_rules.specs.General.{General, Promise}
-use Rattle.elimination_rules.proofs.Theorem.{elimination_is, decided, rounds_fit}
+use Rattle.elimination_rules.specs.Theorem.{decided}
+use Rattle.elimination_rules.proofs.Theorem.{elimination_is, rounds_fit}
 use Rattle.elimination_rules.specs.First.{at_first}
 use Rattle.elimination_rules.specs.Special.{not_too_special}
 use Rattle.elimination_rules.proofs.Fold.{VerdictKeeps}
 use Rattle.elimination_rules.proofs.Rounds.{each_ended}
-use Rattle.elimination_rules.specs.Units.{Units, in_base, Agree, Agreeing, FirstClash}
-use Rattle.elimination_rules.proofs.Units.{general_units, solvable_units, clash_units, clash_all}
+use Rattle.elimination_rules.specs.Units.{Units, in_base, Agree, Agreeing, FirstClash, general_units, solvable_units, clash_units, clash_all}
 use Rattle.elimination_rules.specs.Checked.{Checked}
 use Rattle.elimination_rules.proofs.Checked.{verdict, checked_answer, call_ind, answer_checked}
 use Rattle.elimination_rules.specs.Demand.{Accepted}

@@ -1,43 +1,20 @@
 -- "the smallest unknown's size falls at each call": what a round hands on, as the code that calls itself needs it.
-use Rattle.std.specs.Prelude.{◌≡◌, refl, true, List, ℕ, ◌*◌, ◌≤◌, ◌<◌, length, take, set, ℤ, pos, nat_abs}
-use Rattle.std.proofs.Common.{sym, ◌∙◌, ap, subst, arith, leb-true, le-leb, length-set, get_or-set_other}
-use Rattle.std.proofs.Math.ListN.{get_or-eq_default}
-use Rattle.whole.specs.Cases.{by_less}
+use Rattle.std.specs.Prelude.{◌≡◌, refl, true, List, ℕ, ◌*◌, ◌<◌, length, take, set, ℤ, pos, nat_abs}
+use Rattle.std.proofs.Common.{sym, ◌∙◌, ap, subst, arith, le-leb, length-set, get_or-set_other}
 use Rattle.whole.specs.Division.{Division}
 use Rattle.whole.specs.Size.{limit, in_limit}
 use Rattle.row.specs.Row.{at, all_in_limit}
 use Rattle.row.specs.Divide.{quotients_by, remainders_by}
-use Rattle.row.specs.Smallest.{Pick, nothing, column, smallest, size_of}
-use Rattle.row.specs.Smaller.{Least}
-use Rattle.row.specs.Tables.{all_at, all_of, all_set}
+use Rattle.row.specs.Smallest.{smallest, size_of}
+use Rattle.row.specs.Tables.{all_of, all_set}
 use Rattle.elimination_rules.specs.Round.{Turn, holds, solved, again, clash, wide, upright, round}
 use Rattle.elimination_rules.specs.Zeros.{Nonzero, Below, some_size}
 use Rattle.elimination_rules.specs.Divisions.{length_quotients, length_others, length_remainders, remainder_none, remainder_small}
 use Rattle.elimination_rules.specs.Upright.{Picked}
-use Rattle.elimination_rules.proofs.Upright.{least_unknown, length_upright, size_upright, upright_positive}
+use Rattle.elimination_rules.proofs.Upright.{length_upright, size_upright, upright_positive}
 use Rattle.elimination_rules.proofs.Swap.{length_swapped}
 use Rattle.elimination_rules.proofs.Ways.{turn_ind, round_ind}
-
--- The smallest size is at most that of any unknown that is there.
-pub smallest_of : (u : ℕ) (e : List ℤ) (i : ℕ) → i < u → 0 < nat_abs (at e i) → (0 < size_of (smallest (take u e))) × (size_of (smallest (take u e)) ≤ nat_abs (at e i))
-smallest_of u e i h p = by (smallest (take u e)) (least_unknown u e)
-  where
-    by : (b : Pick) → Least e u b → (0 < size_of b) × (size_of b ≤ nat_abs (at e i))
-    by nothing l = absurd (omega (arith, l i h))
-    by (column j a) l = (l.2, l.3 i h p)
-
-size_in_limit : (e : List ℤ) (i : ℕ) → all_in_limit e ≡ true → nat_abs (at e i) ≤ limit
-size_in_limit e i h =
-    by_less i (length e) (λ l. leb-true (nat_abs (at e i)) limit (all_at in_limit (pos 0) e i h l))
-    (λ l. omega (arith, ap nat_abs (get_or-eq_default e (pos 0) l)))
-
--- The smallest size of an equation within the limit, so that more fuel than that is enough.
-pub smallest_in_limit : (u : ℕ) (e : List ℤ) → all_in_limit e ≡ true → size_of (smallest (take u e)) ≤ limit
-smallest_in_limit u e h = by (smallest (take u e)) (least_unknown u e)
-  where
-    by : (b : Pick) → Least e u b → size_of b ≤ limit
-    by nothing l = omega arith
-    by (column j a) l = omega (arith, l.1, size_in_limit e j h)
+use Rattle.elimination_rules.specs.Fall.{smallest_of, size_in_limit, Tabled, TurnTabled}
 
 module _ {quo : ℤ → ℤ → ℤ} (d : Division quo) (u v : ℕ) (t e : List ℤ) (f : ℕ) where
   -- What remains of the equation.
@@ -107,17 +84,6 @@ module _ {quo : ℤ → ℤ → ℤ} (d : Division quo) (u v : ℕ) (t e : List 
   again_in_limit h = (again_remains h).limited
 
 -- ---- the table after the round: as long as it was, and within the limit
-pub record Tabled (v w : ℕ) (t : List ℤ) : Type 0 where
-  pub long : length t ≡ v * w
-  pub limited : all_in_limit t ≡ true
-
-abbrev pub TurnTabled : ℕ → ℕ → List ℤ → Turn → Type 0
-TurnTabled v w t (holds t') = t' ≡ t
-TurnTabled v w t (solved t' f') = Tabled v w t'
-TurnTabled v w t (again t' e') = Tabled v w t'
-TurnTabled v w t clash = Unit {0}
-TurnTabled v w t wide = Unit {0}
-
 module _ (quo : ℤ → ℤ → ℤ) (u v w : ℕ) (t e : List ℤ) (f : ℕ) (le : length e ≡ w) (lt : length t ≡ v * w) where
   pub round_tabled : TurnTabled v w t (round quo u v t e f)
   round_tabled =

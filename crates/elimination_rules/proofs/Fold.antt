@@ -1,60 +1,19 @@
 -- An equation replaced and solved, the equations in order, and the start: for any set of assignments that a table stands for.
-use Rattle.std.specs.Prelude.{◌≡◌, refl, List, [], length, take, drop, ℤ, pos}
-use Rattle.std.proofs.Common.{◌∙◌, ap, subst, arith}
-use Prim.Native.Nat.{ℕ, zero, suc, ◌+◌, ◌*◌, ◌≤◌, ◌<◌}
-use Rattle.whole.specs.Cases.{by_less}
+use Rattle.std.specs.Prelude.{◌≡◌, List, [], length, take, drop, ℤ}
+use Rattle.std.proofs.Common.{subst, arith}
+use Prim.Native.Nat.{ℕ, zero, suc, ◌+◌, ◌*◌, ◌≤◌}
 use Rattle.whole.specs.Division.{Division}
-use Rattle.whole.specs.Word.{first_set}
-use Rattle.row.specs.Row.{at, dot}
-use Rattle.row.specs.Table.{replaced, start, Rows}
-use Rattle.row.specs.Values.{none_dot}
-use Rattle.row.specs.Tables.{long_take, long_drop, values_start}
+use Rattle.row.specs.Table.{replaced, Rows}
+use Rattle.row.specs.Tables.{long_take, long_drop}
 use Rattle.elimination_rules.specs.Equation.{Outcome, done, clashed, widened, spent, one, Verdict, accepted, clash_at, wide_at, spent_all, on_outcome, each}
 use Rattle.elimination_rules.specs.General.{Gap}
 use Rattle.elimination_rules.proofs.Ways.{one_ind}
-use Rattle.elimination_rules.specs.Kept.{replaced_long}
-use Rattle.elimination_rules.proofs.Kept.{start_kept, replaced_off}
-use Rattle.elimination_rules.specs.Yield.{yield, yield_row, yield_past}
-use Rattle.elimination_rules.proofs.Moves.{Stands, more_stands, stands_for}
+use Rattle.elimination_rules.specs.Kept.{replaced_long, replaced_off}
+use Rattle.elimination_rules.specs.Moves.{Stands, more_stands, stands_for}
 use Rattle.elimination_rules.specs.Course.{None}
 use Rattle.elimination_rules.proofs.Course.{OutcomeStands, solve_stands}
-use Rattle.elimination_rules.proofs.Replace.{replaced_value}
-
--- "It starts with unknown j equal to itself": every assignment.
-pub start_stands : (u v w : ℕ) → v ≤ w → Stands u v w (λ x. Unit {0}) (start w v) [] (first_set v)
-start_stands u v w vw = record {
-  kept = start_kept u v w vw;
-  off = λ i a b. refl;
-  solves = λ z _. tt;
-  back = λ x. x;
-  keeps = λ x i _. refl;
-  zero_at = λ x _. none_dot x;
-  found = λ x _. itself x;
-  agrees = λ z i _. itself z i;
-}
-  where
-    itself : (x : List ℤ) (i : ℕ) → at (yield w v (start w v) x) i ≡ at x i
-    itself x i =
-        by_less i v (λ h. yield_row w v (start w v) x i h ∙ values_start w 0 v i x (omega arith) h ∙ ap (at x) (omega arith))
-        (λ h. yield_past w v (start w v) x i h)
-
--- One equation more.
-abbrev pub With : (List ℤ → Type 0) → List ℤ → List ℤ → Type 0
-With S e x = S x × (dot e x ≡ pos 0)
-
--- m equations more.
-abbrev pub WithAll : (List ℤ → Type 0) → ℕ → ℕ → List ℤ → List ℤ → Type 0
-WithAll S w m es x = S x × Rows (λ e. dot e x ≡ pos 0) w m es
-
--- The equations before number n have a table that stands for them, and with it there is a constant column that has none.
-pub record Clash (u v w : ℕ) (S : List ℤ → Type 0) (m i : ℕ) (es : List ℤ) (place : ℕ) : Type 0 where
-  pub nth : ℕ
-  pub among : nth < m
-  pub is_place : place ≡ i + nth
-  pub table : List ℤ
-  pub word : ℕ
-  pub before : Stands u v w (WithAll S w nth es) table [] word
-  pub none : None u w (WithAll S w (suc nth) es)
+use Rattle.elimination_rules.specs.Replace.{replaced_value}
+use Rattle.elimination_rules.specs.Fold.{With, WithAll, Clash}
 
 none_for : {u w : ℕ} {S : List ℤ → Type 0} (S' : List ℤ → Type 0) → ((x : List ℤ) → S' x → S x) → None u w S → None u w S'
 none_for S' h n = record { at_column = n.at_column; from = n.from; to = n.to; none = λ x k y. n.none x k (h x y) }

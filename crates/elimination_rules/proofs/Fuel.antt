@@ -7,15 +7,11 @@ use Rattle.whole.specs.Size.{limit}
 use Rattle.row.specs.Smallest.{smallest, size_of}
 use Rattle.row.specs.Table.{replaced}
 use Rattle.elimination_rules.specs.Round.{Turn, holds, solved, again, clash, wide, round}
-use Rattle.elimination_rules.specs.Equation.{Outcome, done, clashed, widened, spent, on_turn, solve, one}
+use Rattle.elimination_rules.specs.Equation.{Outcome, spent, on_turn, solve, one}
 use Rattle.elimination_rules.proofs.Ways.{one_ind}
-use Rattle.elimination_rules.proofs.Fall.{smallest_in_limit, Remains, Falls, falls}
-
-abbrev pub Ended : Outcome → Type 0
-Ended (done t k f) = Unit {0}
-Ended clashed = Unit {0}
-Ended widened = Unit {0}
-Ended spent = ⊥
+use Rattle.elimination_rules.specs.Fall.{smallest_in_limit}
+use Rattle.elimination_rules.proofs.Fall.{Remains, Falls, falls}
+use Rattle.elimination_rules.specs.Fuel.{Ended}
 
 module _ {quo : ℤ → ℤ → ℤ} (d : Division quo) (u v : ℕ) where
   on_turn_lem : (go : List ℤ → List ℤ → Outcome) (t e : List ℤ) (k f : ℕ) → ((t' e' : List ℤ) → Remains d u v t e f e' → Ended (go t' e'))

@@ -9,11 +9,8 @@ pub mod Fuel
 pub mod Yield
 pub mod Moves
 pub mod Course
-pub mod Replace
 pub mod Fold
 pub mod Rounds
-pub mod Columns
 pub mod Theorem
-pub mod Units
 pub mod Checked
 pub mod Demand

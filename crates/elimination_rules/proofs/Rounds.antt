@@ -6,7 +6,8 @@ use Rattle.whole.specs.Size.{limit}
 use Rattle.whole.specs.Word.{count}
 use Rattle.elimination_rules.specs.Equation.{Outcome, done, clashed, widened, spent, one, accepted, each}
 use Rattle.elimination_rules.specs.General.{Kept}
-use Rattle.elimination_rules.proofs.Count.{Counted, OutcomeKept, one_outcome}
+use Rattle.elimination_rules.specs.Count.{Counted, OutcomeKept}
+use Rattle.elimination_rules.proofs.Count.{one_outcome}
 use Rattle.elimination_rules.proofs.Fuel.{one_ended}
 use Rattle.elimination_rules.proofs.Fold.{OutcomeKeeps, VerdictKeeps, each_keeps}
 

@@ -12,12 +12,7 @@ use Rattle.elimination_rules.specs.Zeros.{Zero, Nonzero, Below, From, zero_every
 use Rattle.elimination_rules.specs.Divisions.{length_quotients, length_others, remainders_less, quotient_zero, quotient_one, remainder_small, multiple}
 use Rattle.elimination_rules.proofs.Swap.{swapped}
 use Rattle.elimination_rules.proofs.Ways.{turn_ind}
-
--- A row of quotients in the free unknowns, x in the picked column: 1 where the unknown goes, 0 where it stays.
-pub record Quotients (u w f j : ℕ) (x : ℤ) (q : List ℤ) : Type 0 where
-  pub long : length q ≡ w
-  pub off : Off u f q
-  pub here : at q j ≡ x
+use Rattle.elimination_rules.specs.Steps.{Quotients}
 
 -- ---- the picked column set to 0
 set_here : (q : List ℤ) (j : ℕ) → at (set q j (pos 0)) j ≡ pos 0

@@ -7,13 +7,13 @@ use Rattle.row.specs.Row.{dot}
 use Rattle.row.specs.Table.{start, Rows}
 use Rattle.row.specs.Tables.{rows_both, rows_fewer}
 use Rattle.elimination_rules.specs.Equation.{Verdict, accepted, clash_at, wide_at, spent_all, eliminate}
-use Rattle.elimination_rules.specs.General.{Gap, val, values, Holds, Column, Clashing, Promise, Decided}
-use Rattle.elimination_rules.proofs.Kept.{start_kept}
-use Rattle.elimination_rules.proofs.Moves.{Stands}
-use Rattle.elimination_rules.proofs.Fold.{WithAll, Clash, VerdictStands, each_stands, start_stands}
+use Rattle.elimination_rules.specs.General.{Gap, val, values, Holds, Column, Clashing, Promise}
+use Rattle.elimination_rules.specs.Kept.{start_kept}
+use Rattle.elimination_rules.specs.Moves.{Stands}
+use Rattle.elimination_rules.specs.Fold.{WithAll, Clash, start_stands}
+use Rattle.elimination_rules.proofs.Fold.{VerdictStands, each_stands}
 use Rattle.elimination_rules.proofs.Rounds.{each_kept}
-use Rattle.elimination_rules.specs.Columns.{whole, constant_whole}
-use Rattle.elimination_rules.proofs.Columns.{val_whole, stands_column, column_for}
+use Rattle.elimination_rules.specs.Columns.{whole, constant_whole, val_whole, stands_column, column_for}
 
 -- Every assignment.
 abbrev Any : List ℤ → Type 0
@@ -57,15 +57,6 @@ elimination_is {quo} d n u v w m es vu uw l g =
     by (clash_at p) k = clashing u v w vu m es p g k
     by (wide_at p) k = tt
     by spent_all k = tt
-
--- A clash exactly when there is no solution, where the verdict is not wide.
-pub decided : (u v w m : ℕ) (es : List ℤ) (a : Verdict) → Promise u v w m es a → Decided u w m es a
-decided u v w m es (accepted t k f) p = record { solution = λ c. values u c w v t []; holds = λ c uc cw. (p.column c uc cw).solves [] }
-decided u v w m es (clash_at n) p =
-    λ s. let c = p.at_column in
-    p.none (s.solution c) (rows_fewer (λ e. val u c e (s.solution c) ≡ pos 0) w m (suc n) es (omega (arith, p.among)) (s.holds c p.from p.to))
-decided u v w m es (wide_at n) p = tt
-decided u v w m es spent_all p = tt
 
 -- At most the fuel for each unknown that is free no longer.
 pub rounds_fit : {quo : ℤ → ℤ → ℤ} → Division quo → (n u v w m : ℕ) (es : List ℤ) → v ≤ u → u ≤ w → length es ≡ m * w

@@ -12,8 +12,7 @@ use Rattle.elimination_rules.specs.Round.{swaps, Turn, holds, solved, again, cla
 use Rattle.elimination_rules.specs.Equation.{Outcome, widened, solve, one}
 use Rattle.elimination_rules.specs.Zeros.{Zero, Nonzero, Below, From, zero_below, zero_from, nonzero_below, nonzero_from}
 use Rattle.elimination_rules.specs.Divisions.{length_quotients, length_others}
-use Rattle.elimination_rules.specs.Upright.{Picked}
-use Rattle.elimination_rules.proofs.Upright.{by_pick}
+use Rattle.elimination_rules.specs.Upright.{Picked, by_pick}
 use Rattle.elimination_rules.proofs.Swap.{swapped}
 
 -- ---- what a round comes to, by its tests: e is above 0 at the picked column j, r are the remainders

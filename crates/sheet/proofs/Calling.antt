@@ -13,7 +13,7 @@ use Rattle.sheet_rules.specs.Checks.{Checked, refused, well_formed, on_checked, 
 use Rattle.sheet_rules.specs.Calls.{check_by, check, ask_by, ask_line, ask_channel, lines_part}
 use Rattle.sheet_rules.specs.Formed.{Formed}
 use Rattle.sheet_rules.specs.FormedLaws.{formed}
-use Rattle.sheet_rules.proofs.Answers.{Numbered, sheet_numbered}
+use Rattle.sheet_rules.specs.Answers.{Numbered, sheet_numbered}
 
 -- The number of a check's refusal is never 0.
 as_refusal : (lent : List ℤ) (a : Answer) (c : Checked) → Numbered c → on_checked (λ n i. refuses n i lent) a c ≡ on_checked (λ n i. refusal_of n i lent) a c

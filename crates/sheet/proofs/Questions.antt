@@ -22,7 +22,7 @@ use Rattle.sheet_rules.specs.Lines.{reads}
 use Rattle.sheet_rules.specs.Work.{solved}
 use Rattle.sheet_rules.specs.Calls.{put_in}
 use Rattle.sheet_rules.specs.Formed.{Formed}
-use Rattle.sheet_rules.proofs.Prefix.{channel_there}
+use Rattle.sheet_rules.specs.Prefix.{channel_there}
 use Rattle.sheet_rules.proofs.WorkKept.{solved_kept}
 use Rattle.sheet.specs.Asked.{asked_row, Asked}
 use Rattle.sheet.specs.declared.ask.Question as Q

@@ -3,7 +3,7 @@ use mathlib.Core.Path.{◌≡◌, refl}
 use mathlib.Core.List.{List, [], ◌∷◌}
 use Prim.Native.Nat.{ℕ, zero, suc}
 use Rattle.sheet_rules.specs.Shape.{Line}
-use Rattle.sheet_rules.proofs.Prefix.{first_below, second_below}
+use Rattle.sheet_rules.specs.Prefix.{first_below, second_below}
 use Rattle.sheet.specs.Store.{UnitSum, EquationSum}
 use Rattle.sheet.specs.declared.line.Source as S
 use Rattle.sheet.specs.declared.line.Sum as M

@@ -1,9 +1,8 @@
 -- What an answer to a call on a sheet says of the sheet and of the work on it.
-use Rattle.std.specs.Prelude.{◌≡◌, refl, ◌≢◌, true, List, [], ◌∷◌, ◌++◌, ℕ, ◌+◌, ◌*◌, ◌≤◌, ◌<◌, leb, ltb, length, take, drop, ℤ}
+use Rattle.std.specs.Prelude.{◌≡◌, refl, ◌≢◌, true, List, ◌++◌, ℕ, ◌+◌, ◌*◌, ◌≤◌, ◌<◌, leb, ltb, length, take, drop, ℤ}
 use Rattle.std.proofs.Common.{sym, ◌∙◌, ap, subst, mul_comm, arith, take_at, drop_at}
 use borrow.Author.Tests.{leb-false, le-ltb}
 use Rattle.whole.specs.Cases.{if_ind}
-use Rattle.whole.specs.Place.{Found, place, nowhere}
 use Rattle.row.specs.Row.{all_in_limit, dot}
 use Rattle.row.specs.Judged.{judged_ind}
 use Rattle.row.specs.Table.{replaced}
@@ -14,34 +13,18 @@ use Rattle.elimination_rules.specs.General.{val}
 use Rattle.elimination_rules.specs.Kept.{replaced_long}
 use Rattle.elimination_rules.specs.Units.{Units, in_base, yields}
 use Rattle.sheet_rules.specs.Shape.{Shape, shape_of}
-use Rattle.sheet_rules.specs.Checks.{Checked, refused, well_formed, on_checked, first_failing, checks, checked_sheet}
+use Rattle.sheet_rules.specs.Checks.{Checked, refused, well_formed, on_checked, checked_sheet}
 use Rattle.sheet_rules.specs.Lines.{unit_at, reads}
 use Rattle.sheet_rules.specs.Work.{solved}
 use Rattle.sheet_rules.specs.Calls.{check_by, check, put_in, ask_by, ask_line, ask_channel}
 use Rattle.sheet_rules.specs.Formed.{Formed}
 use Rattle.sheet_rules.specs.FormedLaws.{formed}
-use Rattle.sheet_rules.proofs.UnitRows.{Fitting, unit_fits, reads_fits}
+use Rattle.sheet_rules.specs.UnitRows.{Fitting}
+use Rattle.sheet_rules.proofs.UnitRows.{unit_fits, reads_fits}
 use Rattle.sheet_rules.proofs.WorkKept.{solved_kept, solved_ends}
-use Rattle.sheet_rules.proofs.Bridge.{assigned}
-use Rattle.sheet_rules.proofs.PutIn.{replaced_unit}
-
--- ---- the checks' refusals are 1 to 7
-abbrev pub Numbered : Checked → Type 0
-Numbered (refused n i) = (0 < n) × (n < 8)
-Numbered well_formed = Unit {0}
-
-abbrev AllNumbered : List (ℕ × Found) → Type 0
-AllNumbered [] = Unit {0}
-AllNumbered (c ∷ cs) = (0 < c.0) × (c.0 < 8) × AllNumbered cs
-
-first_numbered : (cs : List (ℕ × Found)) → AllNumbered cs → Numbered (first_failing cs)
-first_numbered [] p = tt
-first_numbered ((n, place i) ∷ cs) p = (p.0, p.1)
-first_numbered ((n, nowhere) ∷ cs) p = first_numbered cs p.2
-
-pub sheet_numbered : (s : List ℕ) → Numbered (checked_sheet s)
-unfolding checked_sheet
-sheet_numbered s = first_numbered (checks s (shape_of s)) (omega arith)
+use Rattle.sheet_rules.specs.Bridge.{assigned}
+use Rattle.sheet_rules.specs.PutIn.{replaced_unit}
+use Rattle.sheet_rules.specs.Answers.{Numbered, sheet_numbered}
 
 -- ---- two answers that cannot be the same
 other_number : {n m i j k l f g : ℕ} {t r : List ℤ} {P : Type 0} → n ≢ m → heard n i k f t ≡ heard m j l g r → P

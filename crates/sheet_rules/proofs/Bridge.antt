@@ -1,67 +1,35 @@
 -- The bridge from rows to units: the value of a line's row, where the unknowns are given units, is the line's unit; so its
 -- equations are zero exactly when it agrees.
-use Rattle.std.specs.Prelude.{◌≡◌, refl, ◌↔◌, List, [], ◌∷◌, take, drop, ℤ, pos, ◌-ℤ◌, ◌*ℤ◌}
-use Rattle.std.proofs.Common.{sym, ◌∙◌, arith, ltb-true, get_or-take, get_or-drop}
+use Rattle.std.specs.Prelude.{◌≡◌, ◌↔◌, List, [], ◌∷◌, ℤ, pos, ◌-ℤ◌, ◌*ℤ◌}
+use Rattle.std.proofs.Common.{sym, ◌∙◌, arith, ltb-true}
 use Rattle.std.proofs.Math.Path.{ap, ap₂}
-use Prim.Native.Nat.{ℕ, zero, suc, ◌+◌, ◌*◌, ◌<◌}
-use Rattle.std.proofs.Math.ListN.{get_or-map}
-use Rattle.std.proofs.Math.IntN.{◌+ℤ◌, zero-*ℤ, +ℤ_idl}
-use Rattle.whole.specs.Bytes.{signed}
+use Prim.Native.Nat.{ℕ, zero, suc, ◌+◌, ◌<◌}
+use Rattle.std.proofs.Math.IntN.{◌+ℤ◌, zero-*ℤ}
 use Rattle.whole.specs.Ring.{one_mul, equal_by_difference}
 use Rattle.row.specs.Row.{at, less, dot, single}
-use Rattle.row.specs.Values.{dot_none, dot_comm, dot_zero, same_dot, dot_single, plus_dot, less_dot}
+use Rattle.row.specs.Values.{dot_comm, dot_zero, same_dot, dot_single, plus_dot, less_dot}
 use Rattle.row.specs.Tables.{at_zeros, at_itself}
 use Rattle.elimination_rules.specs.General.{val}
-use Rattle.elimination_rules.specs.First.{first_values, at_first}
-use Rattle.elimination_rules.specs.Columns.{whole, at_whole}
-use Rattle.elimination_rules.proofs.Columns.{val_whole}
+use Rattle.elimination_rules.specs.First.{at_first}
+use Rattle.elimination_rules.specs.Columns.{at_whole, val_whole}
 use Rattle.elimination_rules.specs.Units.{Units, in_base}
 use Rattle.sheet_rules.specs.Shape.{Shape, unit_record, channel, line}
 use Rattle.sheet_rules.specs.Good as G
 use Rattle.sheet_rules.specs.Good.{Code, code_of}
 use Rattle.sheet_rules.specs.Lines as L
 use Rattle.sheet_rules.specs.Lines.{none, unknown, reads, unit_of, units, unit_at, equations_at}
-use Rattle.sheet_rules.specs.Agree.{IsBase, Same, sum, exponent, record_unit, reading_unit, unit_by, AgreesBy, unit_within, line_unit, LineAgrees}
+use Rattle.sheet_rules.specs.Agree.{IsBase, Same, record_unit, reading_unit, unit_by, AgreesBy, unit_within, line_unit, LineAgrees}
 use Rattle.sheet_rules.specs.Formed.{Formed}
 use Rattle.sheet_rules.specs.FormedLaws.{Operands}
-use Rattle.sheet_rules.proofs.UnitRows.{Each, record_fits, unit_fits, units_are, line_operands}
-
--- ---- a value as a sum
-dot_sum : (v : ℕ) (r : List ℤ) (g : ℕ → ℤ) → dot r (first_values v g) ≡ sum v (λ j. at r j *ℤ g j)
-unfolding dot sum
-dot_sum zero r g = dot_none r
-dot_sum (suc v) [] g = sym (+ℤ_idl (pos 0)) ∙ ap₂ ◌+ℤ◌ (sym (zero-*ℤ (g 0))) (dot_sum v [] (λ j. g (suc j)))
-dot_sum (suc v) (p ∷ r) g = ap (λ d. p *ℤ g 0 +ℤ d) (dot_sum v r (λ j. g (suc j)))
-
-sum_same : (v : ℕ) (g h : ℕ → ℤ) → ((j : ℕ) → j < v → g j ≡ h j) → sum v g ≡ sum v h
-unfolding sum
-sum_same zero g h e = refl
-sum_same (suc v) g h e = ap₂ ◌+ℤ◌ (e 0 (omega arith)) (sum_same v (λ j. g (suc j)) (λ j. h (suc j)) (λ j l. e (suc j) (omega arith)))
+use Rattle.sheet_rules.specs.UnitRows.{line_operands}
+use Rattle.sheet_rules.proofs.UnitRows.{unit_fits, units_are}
+use Rattle.sheet_rules.specs.Bridge.{assigned, ZeroUnder, record_value}
 
 -- A difference is zero where its two sides are equal.
 less_zero : (f : ℤ) (r q y : List ℤ) {a c : ℤ} → dot r y ≡ a → f *ℤ dot q y ≡ c → (dot (less f r q) y ≡ pos 0) ↔ (a ≡ c)
 less_zero f r q y {a} {c} h k =
     let e : dot (less f r q) y ≡ a -ℤ c = less_dot f r q y ∙ ap₂ ◌-ℤ◌ h k in
     (λ z. (equal_by_difference a c).0 (sym e ∙ z), λ z. e ∙ (equal_by_difference a c).1 z)
-
--- "Each byte is a signed exponent".
-at_record : (sh : Shape) (s : List ℕ) (i c : ℕ) → c < sh.columns → at (unit_record sh s i) c ≡ exponent sh s i c
-unfolding signed
-at_record sh s i c h =
-    get_or-map signed (take sh.columns (drop (sh.columns * i) s)) c 0
-    ∙ ap signed (get_or-take sh.columns (drop (sh.columns * i) s) c 0 h ∙ get_or-drop (sh.columns * i) s c 0)
-
--- The assignment that the units x are in a base.
-abbrev pub assigned : Shape → Units → ℕ → List ℤ
-assigned sh x base = whole sh.unknown_columns sh.unknowns (sh.unknown_columns + base) (in_base sh.unknowns x base)
-
--- Each row of es is zero at y,
-abbrev pub ZeroAt : List (List ℤ) → List ℤ → Type 0
-ZeroAt es y = Each (λ r. dot r y ≡ pos 0) es
-
--- and so in every base, where the unknowns have the units x.
-abbrev pub ZeroUnder : Shape → Units → List (List ℤ) → Type 0
-ZeroUnder sh x es = (base : ℕ) → IsBase sh base → ZeroAt es (assigned sh x base)
 
 module _ (sh : Shape) (s : List ℕ) (F : Formed sh s) (x : Units) where
   abbrev y : ℕ → List ℤ
@@ -77,21 +45,8 @@ module _ (sh : Shape) (s : List ℕ) (F : Formed sh s) (x : Units) where
       ∙ at_whole sh.unknown_columns sh.unknowns (sh.unknown_columns + base) (in_base sh.unknowns x base) j h
       ∙ at_first sh.unknowns (λ i. x i base) j h
 
-  pub record_value : (i base : ℕ) → i < sh.records → IsBase sh base → dot (unit_record sh s i) (y base) ≡ record_unit sh s x i base
-  unfolding val
-  record_value i base h l =
-      let u = sh.unknown_columns in
-      let v = sh.unknowns in
-      let r = unit_record sh s i in
-      val_whole u v (u + base) r (in_base v x base) (omega (arith, F.laid)) (omega arith) (record_fits sh s F i h).gap
-      ∙ ap₂ ◌+ℤ◌
-      (dot_sum v (take u r) (λ j. x j base)
-      ∙ sum_same v (λ j. at (take u r) j *ℤ x j base) (λ j. exponent sh s i j *ℤ x j base)
-      (λ j k. ap (λ e. e *ℤ x j base) (get_or-take u r j (pos 0) (omega (arith, F.laid)) ∙ at_record sh s i j (omega (arith, F.laid)))))
-      (at_record sh s i (u + base) l)
-
   pub reading_value : (c base : ℕ) → c < sh.channels → IsBase sh base → dot (reads sh s c) (y base) ≡ reading_unit sh s x c base
-  reading_value c base h l = record_value (channel sh s c) base (ltb-true _ _ (F.good_channels c h)) l
+  reading_value c base h l = record_value sh s F x (channel sh s c) base (ltb-true _ _ (F.good_channels c h)) l
 
   -- ---- the line table: us are the rows of the lines before line k, and z their units
   module _ (k : ℕ) (us : List (List ℤ)) (z : ℕ → ℕ → ℤ) where
@@ -107,7 +62,7 @@ module _ (sh : Shape) (s : List ℕ) (F : Formed sh s) (x : Units) where
         less_dot (pos 1) (unit_of us a) (unit_of us b) (y base) ∙ ap₂ ◌-ℤ◌ (h a o.0) (one_mul (dot (unit_of us b) (y base)) ∙ h b o.1)
     unit_by_value base l h G.root a b o = unknown_value b base o.1
     unit_by_value base l h G.less_than a b o = none_value base
-    unit_by_value base l h G.stated a b o = record_value b base o.1 l
+    unit_by_value base l h G.stated a b o = record_value sh s F x b base o.1 l
     unit_by_value base l h G.no_code a b o = absurd o
 
     module _ (h : (base : ℕ) → IsBase sh base → (i : ℕ) → i < k → dot (unit_of us i) (y base) ≡ z i base) where
@@ -132,7 +87,7 @@ module _ (sh : Shape) (s : List ℕ) (F : Formed sh s) (x : Units) where
       equations_by_agree G.root a b o = compared (pos 2) a (unknown sh b) (λ base. pos 2 *ℤ x b base) o.0 (λ base _. ap (λ e. pos 2 *ℤ e) (unknown_value b base o.1))
       equations_by_agree G.less_than a b o = lines_compared a b o.0 o.1
       equations_by_agree G.stated a b o =
-          compared (pos 1) a (unit_record sh s b) (record_unit sh s x b) o.0 (λ base i. one_mul (dot (unit_record sh s b) (y base)) ∙ record_value b base o.1 i)
+          compared (pos 1) a (unit_record sh s b) (record_unit sh s x b) o.0 (λ base i. one_mul (dot (unit_record sh s b) (y base)) ∙ record_value sh s F x b base o.1 i)
       equations_by_agree G.no_code a b o = absurd o
 
   -- ---- the lines

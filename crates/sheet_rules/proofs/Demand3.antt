@@ -16,7 +16,8 @@ use Rattle.sheet_rules.specs.Agree.{Same, reading_unit, line_unit, Agrees, Agree
 use Rattle.sheet_rules.specs.FormedLaws.{formed}
 use Rattle.sheet_rules.proofs.WorkKept.{solved_kept, solved_ends}
 use Rattle.sheet_rules.proofs.Bridge.{line_value, reading_value}
-use Rattle.sheet_rules.proofs.LinesStand.{general_agrees, solved_general, solved_clash, clash_all}
+use Rattle.sheet_rules.specs.LinesStand.{general_agrees, clash_all}
+use Rattle.sheet_rules.proofs.LinesStand.{solved_general, solved_clash}
 use Rattle.sheet_rules.proofs.Answers.{check_accepted, line_asked, channel_asked, check_clash, check_is, check_answered, line_answered, channel_answered, asked_unit}
 use Rattle.sheet_rules.specs.Demand3.{unknowns, lines, yielded, row_unit}
 

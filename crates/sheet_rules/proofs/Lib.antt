@@ -3,6 +3,5 @@ pub mod UnitRows
 pub mod WorkKept
 pub mod Bridge
 pub mod LinesStand
-pub mod PutIn
 pub mod Answers
 pub mod Demand3

@@ -1,6 +1,6 @@
 -- The work on a formed sheet: the table stands for the assignments at which every line's equations are zero, and so for the units
 -- under which every line agrees.
-use Rattle.std.specs.Prelude.{◌≡◌, ◌↔◌, ℕ, ◌+◌, ◌-◌, ◌≤◌, ◌<◌, ℤ, pos}
+use Rattle.std.specs.Prelude.{◌≡◌, ◌↔◌, ℕ, ◌+◌, ◌-◌, ◌≤◌, ◌<◌, ℤ}
 use Rattle.std.proofs.Math.Path.{refl}
 use Rattle.std.proofs.Common.{subst, arith}
 use mathlib.Core.List.{List, [], ◌∷◌}
@@ -9,22 +9,24 @@ use Rattle.whole.specs.Division.{quotient}
 use Rattle.whole.proofs.Division.{rounded_down}
 use Rattle.elimination_rules.specs.Equation.{Outcome, done, clashed, widened, spent, one, Verdict, accepted, clash_at}
 use Rattle.elimination_rules.specs.Call.{fuel}
-use Rattle.elimination_rules.proofs.Moves.{Stands, stands_for}
+use Rattle.elimination_rules.specs.Moves.{Stands, stands_for}
 use Rattle.elimination_rules.specs.Course.{Constant, None}
 use Rattle.elimination_rules.proofs.Course.{OutcomeStands}
-use Rattle.elimination_rules.proofs.Fold.{With, one_stands, one_clash, start_stands}
-use Rattle.elimination_rules.specs.Columns.{whole, constant_whole}
-use Rattle.elimination_rules.proofs.Columns.{stands_column}
-use Rattle.elimination_rules.specs.Units.{Units, in_base, yields, MostGeneral}
-use Rattle.elimination_rules.proofs.Units.{units_general}
+use Rattle.elimination_rules.specs.Fold.{With, start_stands}
+use Rattle.elimination_rules.proofs.Fold.{one_stands, one_clash}
+use Rattle.elimination_rules.specs.Columns.{whole, constant_whole, stands_column}
+use Rattle.elimination_rules.specs.Units.{Units, in_base, MostGeneral, units_general}
 use Rattle.sheet_rules.specs.Shape.{Shape}
 use Rattle.sheet_rules.specs.Lines.{equations_at}
 use Rattle.sheet_rules.specs.Work.{on_done, equations, line_outcome, solved}
-use Rattle.sheet_rules.specs.Agree.{IsBase, Agrees, Agreeing, FirstClash}
+use Rattle.sheet_rules.specs.Agree.{IsBase, Agrees, FirstClash}
 use Rattle.sheet_rules.specs.Formed.{Formed}
-use Rattle.sheet_rules.proofs.UnitRows.{Fitting, Each, equations_fit}
+use Rattle.sheet_rules.specs.UnitRows.{Fitting, Each}
+use Rattle.sheet_rules.proofs.UnitRows.{equations_fit}
 use Rattle.sheet_rules.proofs.WorkKept.{line_ind, LineKeeps, WorkKeeps, solved_ind}
-use Rattle.sheet_rules.proofs.Bridge.{assigned, ZeroAt, line_agrees}
+use Rattle.sheet_rules.specs.Bridge.{assigned, ZeroAt}
+use Rattle.sheet_rules.proofs.Bridge.{line_agrees}
+use Rattle.sheet_rules.specs.LinesStand.{general_agrees}
 
 -- The equations of the first n lines are zero at y.
 abbrev pub LinesZero : Shape → List ℕ → ℕ → List ℤ → Type 0
@@ -48,14 +50,6 @@ general_for A' h g = record {
   yielded = λ x a. g.yielded x ((h x).1 a);
   same = g.same;
   only = g.only;
-}
-
--- Any choice yields a set.
-pub general_agrees : (sh : Shape) (s : List ℕ) (n : ℕ) {t : List ℤ} {f : ℕ}
-    → MostGeneral sh.unknown_columns sh.unknowns sh.columns (Agrees sh s n) t f → Agreeing sh s n
-general_agrees sh s n {t} g = record {
-  units = yields sh.unknown_columns sh.unknowns sh.columns t (λ j base. pos 0);
-  agree = g.solves (λ j base. pos 0);
 }
 
 module _ (sh : Shape) (s : List ℕ) (F : Formed sh s) where
@@ -167,7 +161,3 @@ module _ (sh : Shape) (s : List ℕ) (F : Formed sh s) where
         before = general_agrees sh s n (stands_general n (omega (arith, k.among)) k.before);
         none = λ a. none_agree (n + 1) (omega (arith, k.among)) k.none a.units (λ j h. a.agree j (omega arith));
       }
-
--- A clash is one of all lines.
-pub clash_all : (sh : Shape) (s : List ℕ) {n : ℕ} → FirstClash sh s n → Agreeing sh s sh.lines → ⊥
-clash_all sh s c a = c.none (record { units = a.units; agree = λ k h. a.agree k (omega (arith, c.among)) })

@@ -13,16 +13,19 @@ use Rattle.row.specs.Judged.{judged_ind}
 use Rattle.row.specs.Table.{start}
 use Rattle.elimination_rules.specs.Equation.{Outcome, done, clashed, widened, spent, one, Verdict, accepted, clash_at, wide_at, spent_all, on_outcome}
 use Rattle.elimination_rules.specs.Call.{fuel}
-use Rattle.elimination_rules.specs.General.{Kept}
-use Rattle.elimination_rules.proofs.Kept.{start_kept}
-use Rattle.elimination_rules.proofs.Count.{Counted, OutcomeKept, one_outcome}
-use Rattle.elimination_rules.proofs.Fuel.{Ended, one_ended}
+use Rattle.elimination_rules.specs.Kept.{start_kept}
+use Rattle.elimination_rules.specs.Count.{Counted, OutcomeKept}
+use Rattle.elimination_rules.proofs.Count.{one_outcome}
+use Rattle.elimination_rules.specs.Fuel.{Ended}
+use Rattle.elimination_rules.proofs.Fuel.{one_ended}
 use Rattle.elimination_rules.proofs.Fold.{OutcomeKeeps}
 use Rattle.sheet_rules.specs.Shape.{Shape}
 use Rattle.sheet_rules.specs.Lines.{unit_at, equations_at}
 use Rattle.sheet_rules.specs.Work.{on_done, equations, line_outcome, work, solved}
 use Rattle.sheet_rules.specs.Formed.{Formed}
-use Rattle.sheet_rules.proofs.UnitRows.{Each, each_map, equations_fit}
+use Rattle.sheet_rules.specs.UnitRows.{Each, each_map}
+use Rattle.sheet_rules.proofs.UnitRows.{equations_fit}
+use Rattle.sheet_rules.specs.WorkKept.{TableKept}
 
 -- ---- by induction: Q holds of the state before line i, C of a clash at line i, X of fuel that ran out
 module _ (sh : Shape) (s : List ℕ) where
@@ -81,9 +84,6 @@ module _ (sh : Shape) (Q : List ℤ → ℕ → ℕ → Type 0) (X : Type 0)
       (one quotient fuel sh.unknown_columns sh.unknowns t e k f) (keeps t e k f l.0 q)
 
 -- ---- the table and the count
-abbrev pub TableKept : Shape → List ℤ → ℕ → Type 0
-TableKept sh t f = Kept sh.unknown_columns sh.unknowns sh.columns t f
-
 -- After n lines: their units are within the limit, the table is kept, and the rounds are at most the fuel for each unknown that is
 -- free no longer.
 pub record LinesKept (sh : Shape) (s : List ℕ) (n : ℕ) (t : List ℤ) (k f : ℕ) : Type 0 where

@@ -11,5 +11,12 @@ pub mod Formed
 pub mod Agree
 pub mod FormedLaws
 pub mod Parts
+pub mod Prefix
+pub mod UnitRows
+pub mod WorkKept
+pub mod Bridge
+pub mod LinesStand
+pub mod PutIn
+pub mod Answers
 pub mod Demand3
 pub mod LinesPart

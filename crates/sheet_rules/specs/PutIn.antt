@@ -6,16 +6,15 @@ use Rattle.row.specs.Row.{at, dot}
 use Rattle.row.specs.Table.{replaced, row_values, Rows}
 use Rattle.elimination_rules.specs.General.{Off, val, values, Kept}
 use Rattle.elimination_rules.specs.First.{first_values, first_at, length_first}
-use Rattle.elimination_rules.proofs.Kept.{replaced_off}
+use Rattle.elimination_rules.specs.Kept.{replaced_off}
 use Rattle.elimination_rules.specs.Yield.{yield}
-use Rattle.elimination_rules.proofs.Replace.{replaced_value}
-use Rattle.elimination_rules.specs.Columns.{rest, whole}
-use Rattle.elimination_rules.proofs.Columns.{val_whole, length_yielded}
+use Rattle.elimination_rules.specs.Replace.{replaced_value}
+use Rattle.elimination_rules.specs.Columns.{rest, whole, val_whole, length_yielded}
 use Rattle.elimination_rules.specs.Units.{Units, in_base, yields}
 use Rattle.sheet_rules.specs.Shape.{Shape}
 use Rattle.sheet_rules.specs.Formed.{Formed}
-use Rattle.sheet_rules.proofs.UnitRows.{Fitting}
-use Rattle.sheet_rules.proofs.Bridge.{assigned}
+use Rattle.sheet_rules.specs.UnitRows.{Fitting}
+use Rattle.sheet_rules.specs.Bridge.{assigned}
 
 -- Rows that have the same value at y and a.
 row_values_lem : (P : List ℤ → Type 0) (u c w : ℕ) (y a : List ℤ) → ((r : List ℤ) → P r → dot r y ≡ val u c r a)

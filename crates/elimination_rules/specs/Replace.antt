@@ -6,7 +6,7 @@ use Rattle.whole.specs.Cases.{by_less}
 use Rattle.whole.specs.Identity.{identity, terms}
 use Rattle.row.specs.Row.{at, plus, dot}
 use Rattle.row.specs.Table.{add_rows, constants, replaced, row_values}
-use Rattle.row.specs.Values.{at_plus, plus_dot, same_dot}
+use Rattle.row.specs.Values.{at_plus, same_dot, plus_dot}
 use Rattle.row.specs.Tables.{constants_low, constants_high, dot_added}
 use Rattle.elimination_rules.specs.General.{Gap}
 use Rattle.elimination_rules.specs.Zeros.{Zero, From, dot_below, dot_from}
