@@ -1,4 +1,4 @@
--- The public call's checks: what they say, and that a call which passes them is answered by the elimination.
+-- The public call's checks: a call which passes them is answered by the elimination.
 use Rattle.std.proofs.Math.Path.{◌≡◌, refl}
 use Rattle.std.proofs.Common.{sym, ◌∙◌, ap, div-add-mod', arith, ltb-false, eqb-true, le-ltb, eq-eqb, length-take, get_or-take, get_or-drop}
 use Rattle.std.specs.Prelude.{◌≢◌, true, List, eqb, ltb, length, take, drop, ℤ, pos}
