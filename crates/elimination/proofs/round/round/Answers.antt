@@ -7,4 +7,4 @@ use Rattle.elimination.proofs.round.round.Goals as goal
 
 pub turn-requires : goal.turn-requires
 turn-requires c =
-    (c.requires, is_picked c.args.u c.args.e.now _ _ ((sym (rw sub-zero at c.smallest-picked.ensures)) ∙ ap pick_of c.in-Column.is))
+    (c.requires, is_picked c.args.u c.args.e.now _ _ (sym (rw sub-zero at c.smallest-picked.ensures) ∙ ap pick_of c.in-Column.is))

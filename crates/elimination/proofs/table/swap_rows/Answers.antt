@@ -13,14 +13,14 @@ swap_row-requires c = rw add-sub_cancel_left (swapping_row c.loop-left.invariant
 pub returns-then-not-swap_row : goal.returns-then-not-swap_row
 returns-then-not-swap_row c =
     let s = c.swap_row in
-    swapping_stop c.loop-left.invariant c.loop-left-test.true s.result s.new.r (rw add-sub_cancel_left at s.ensures) (c.if-not-swap_row.true)
+    swapping_stop c.loop-left.invariant c.loop-left-test.true s.result s.new.r (rw add-sub_cancel_left at s.ensures) c.if-not-swap_row.true
 
 pub loop-left-preserved : goal.loop-left-preserved
 loop-left-preserved c =
     let s = c.swap_row in
     let k = rw add-sub_cancel_left at s.auto.r in
     let e = rw add-sub_cancel_left at s.ensures in
-    rw add-sub_cancel_left (swapping_more c.loop-left.invariant c.loop-left-test.true s.result s.new.r e (c.if-not-swap_row.false) k)
+    rw add-sub_cancel_left (swapping_more c.loop-left.invariant c.loop-left-test.true s.result s.new.r e c.if-not-swap_row.false k)
 
 pub returns : goal.returns
 returns c = swapping_all c.loop-left.invariant (omega arith)

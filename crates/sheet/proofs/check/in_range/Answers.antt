@@ -12,13 +12,15 @@ loop-i-init c = (omega arith, all_map signed (λ z. leb (nat_abs z) 64) c.args.b
 
 pub returns-then-size-gt64 : goal.returns-then-size-gt64
 returns-then-size-gt64 c =
-    sym (c.loop-i.invariant.1 ∙ scan_stop _ 0 c.args.bytes.now c.loop-i.i (omega arith) (rw (let x = c.exponent in c.size.ensures ∙ ap nat_abs (read w32 x.result x.type_inv ∙ x.ensures)) at (lt-leb _ 64 c.if-size-gt64.true)))
+    let x = c.exponent in
+    let e = c.size.ensures ∙ ap nat_abs (read w32 x.result x.type_inv ∙ x.ensures) in
+    sym (c.loop-i.invariant.1 ∙ scan_stop _ 0 c.args.bytes.now c.loop-i.i (omega arith) (rw e at (lt-leb _ 64 c.if-size-gt64.true)))
 
 pub loop-i-preserved : goal.loop-i-preserved
-loop-i-preserved c = (
-  omega arith,
-  c.loop-i.invariant.1 ∙ scan_more _ 0 c.args.bytes.now c.loop-i.i (omega arith) (rw (let x = c.exponent in c.size.ensures ∙ ap nat_abs (read w32 x.result x.type_inv ∙ x.ensures)) at (le-leb _ 64 c.if-size-gt64.false)),
-)
+loop-i-preserved c =
+    let x = c.exponent in
+    let e = c.size.ensures ∙ ap nat_abs (read w32 x.result x.type_inv ∙ x.ensures) in
+    (omega arith, c.loop-i.invariant.1 ∙ scan_more _ 0 c.args.bytes.now c.loop-i.i (omega arith) (rw e at (le-leb _ 64 c.if-size-gt64.false)))
 
 pub returns : goal.returns
 returns c =

@@ -3,16 +3,16 @@ use Rattle.sheet.proofs.Courses.{unit_wide, no_equation, equation_wide, equation
 use Rattle.sheet.proofs.work.line_step.Goals as goal
 
 pub returns-then-not-unit_into : goal.returns-then-not-unit_into
-returns-then-not-unit_into c = let u = c.unit_into in unit_wide (rw (c.if-not-unit_into.true) at u.ensures)
+returns-then-not-unit_into c = unit_wide (rw c.if-not-unit_into.true at c.unit_into.ensures)
 
 pub returns-in-Nothing : goal.returns-in-Nothing
 returns-in-Nothing c =
-    no_equation (let u = c.unit_into in rw (c.if-not-unit_into.false) at u.ensures) (rw c.in-Nothing.is at c.equation_into-stated.ensures)
+    no_equation (rw c.if-not-unit_into.false at c.unit_into.ensures) (rw c.in-Nothing.is at c.equation_into-stated.ensures)
 
 pub returns-in-Wide : goal.returns-in-Wide
 returns-in-Wide c =
-    equation_wide (let u = c.unit_into in rw (c.if-not-unit_into.false) at u.ensures) (rw c.in-Wide.is at c.equation_into-stated.ensures)
+    equation_wide (rw c.if-not-unit_into.false at c.unit_into.ensures) (rw c.in-Wide.is at c.equation_into-stated.ensures)
 
 pub returns-in-Ready : goal.returns-in-Ready
 returns-in-Ready c =
-    equation_solved (let u = c.unit_into in rw (c.if-not-unit_into.false) at u.ensures) c.one.result (rw c.in-Ready.is at c.equation_into-stated.ensures) c.one.ensures
+    equation_solved (rw c.if-not-unit_into.false at c.unit_into.ensures) c.one.result (rw c.in-Ready.is at c.equation_into-stated.ensures) c.one.ensures
