@@ -5,7 +5,6 @@ use Prim.Native.Nat.{ℕ, zero, suc, ◌-◌, ◌/◌, ◌≤◌, ◌<◌, ◌^�
 use native.Mathlib.Nat.{div-le_self}
 use native.Mathlib.Omega.{arith}
 use borrow.Author.Rules.{sfits_of}
-use lib.Dec.{ltb→lt}
 use lib.IntN.{ℤ, pos, negsuc, neg_ℤ, ◌+ℤ◌, ◌-ℤ◌, ◌*ℤ◌}
 use lib.Signed.{◌<ℤ◌, mag, quot_z, rem_z, mag_rem}
 use mir.Syntax.{Width, w32, w64}
@@ -62,7 +61,3 @@ quot_fits x p h f = record { sfits = omega (arith, mag_quot x p h, f.sfits) }
 
 pub rem_fits : {w : Width} (x p : ℤ) → SFits w x → SFits w (rem_z x p)
 rem_fits x p f = record { sfits = omega (arith, mag_rem x p, f.sfits) }
-
-pub above_zero : (w : Width) (p : ℤ) → pos 0 <ℤ p → 0 < of_z w p
-above_zero w (pos n) h = ltb→lt 0 n h.lt
-above_zero w (negsuc n) h = absurd h.lt

@@ -1,5 +1,5 @@
 // Signed numbers of 32 bits, and sums of them in 64.
-ghost use Rattle.std.specs.Prelude.{◌≡◌, true, ℤ, pos, ◌+ℤ◌, ◌-ℤ◌, ◌*ℤ◌, ◌<ℤ◌};
+ghost use Rattle.std.specs.Prelude.{◌≡◌, true, ℤ, pos, nat_abs, neg_ℤ, ◌+ℤ◌, ◌-ℤ◌, ◌*ℤ◌, ◌<ℤ◌};
 ghost use Rattle.whole.specs.Size.{in_limit, Within};
 ghost use Rattle.whole.specs.Judge.{judge};
 ghost use Rattle.whole.specs.Division.{quotient, remainder};
@@ -21,6 +21,13 @@ impl fmt::Display for PastLimit {
 }
 
 impl Error for PastLimit {}
+
+/// x in 64 bits.
+pub fn widen(x: i32) -> i64
+    ensures { result ≡ x }
+{
+    i64::from(x)
+}
 
 /// The limit itself is allowed.
 pub fn in_limit(x: i64) -> bool
@@ -44,6 +51,20 @@ pub fn judge(x: i64) -> Result<i32, PastLimit>
         return Err(PastLimit);
     }
     Ok(narrow(x))
+}
+
+/// The size of x, which for -2^31 only an unsigned number holds.
+pub fn size(x: i32) -> u32
+    ensures { result ≡ nat_abs x }
+{
+    x.unsigned_abs()
+}
+
+pub fn minus(x: i32) -> i32
+    requires { in_limit x ≡ true }
+    ensures { result ≡ neg_ℤ x }
+{
+    -x
 }
 
 /// x less f times y: always fits 64 bits.
