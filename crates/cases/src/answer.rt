@@ -1,5 +1,5 @@
 // An answer as its line has it.
-use elimination::call;
+use elimination::call::Answer;
 use std::fmt;
 
 /// The numbers of an answer: an accepted one has rounds and a mask, and others have a place.
@@ -11,16 +11,16 @@ pub struct Heard {
     mask: u64,
 }
 
-impl From<call::Answer> for Heard {
-    fn from(answer: call::Answer) -> Heard {
+impl From<Answer> for Heard {
+    fn from(answer: Answer) -> Heard {
         match answer {
-            call::Answer::Accepted(rounds, mask) => Heard {
+            Answer::Accepted(rounds, mask) => Heard {
                 number: 0,
                 place: 0,
                 rounds,
                 mask,
             },
-            call::Answer::Refused(number, place) => Heard {
+            Answer::Refused(number, place) => Heard {
                 number,
                 place,
                 rounds: 0,
@@ -32,13 +32,11 @@ impl From<call::Answer> for Heard {
 
 impl fmt::Display for Heard {
     fn fmt<W: fmt::Write>(&self, f: &mut fmt::Formatter<W>) -> fmt::Result {
-        let Heard {
-            number,
-            place,
-            rounds,
-            mask,
-        } = self;
-        write!(f, "{number} {place} {rounds} {mask}")
+        write!(
+            f,
+            "{} {} {} {}",
+            self.number, self.place, self.rounds, self.mask
+        )
     }
 }
 

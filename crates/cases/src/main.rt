@@ -19,7 +19,7 @@ fn all(rt: &impl Print, input: &mut impl Read, alloc: Global) -> Result<(), Stop
         let Some(header) = Header::read(input)? else {
             break;
         };
-        let line = System::read(input, alloc, header)?.answer(alloc)?;
+        let line = System::read(input, alloc, header)?.answer_line(alloc)?;
         rt.write_all(line.as_bytes())?;
     }
     Ok(())

@@ -1,5 +1,5 @@
 // The parts of a pack, and why standard input is none: tests/PACK.md has the format.
-ghost use Rattle.std.specs.Prelude.{◌<◌, ◌≤◌, length, take, IfOk};
+ghost use Rattle.std.specs.Prelude.{◌≡◌, ◌<◌, ◌≤◌, length, take, vec_len, IfOk};
 ghost use Rattle.std.specs.Io.KnownBytes.{Consumes, IsAtEnd};
 
 use std::alloc::{AllocError, Global};
@@ -135,7 +135,9 @@ impl Header {
 }
 
 /// A case's body of so many bytes.
-pub fn body(input: &mut impl Read, alloc: Global, length: usize) -> Result<Vec<u8>, Stop> {
+pub fn body(input: &mut impl Read, alloc: Global, length: usize) -> Result<Vec<u8>, Stop>
+    ensures { IfOk result (λ v. vec_len v ≡ length) }
+{
     let mut bytes = vec![in alloc; 0; length]?;
     if read_full(input, &mut bytes)? < length {
         return Err(Stop::from(NotAPack::Cut));

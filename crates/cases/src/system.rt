@@ -1,4 +1,6 @@
 // A system: V and the equations' numbers, for the elimination call.
+ghost use Rattle.std.specs.Prelude.{◌≤◌, IsTrue};
+
 use crate::answer::{Heard, Table};
 use crate::pack::{self, Header, Kind, NotAPack, Stop};
 use elimination::call;
@@ -14,7 +16,9 @@ pub struct System {
 }
 
 /// Whether a header is one of a system, within its limits.
-fn is_system(header: &Header) -> bool {
+fn is_system(header: &Header) -> bool
+    ensures { IsTrue result → 4 ≤ header.now.length }
+{
     header.kind == Kind::System
         && header.room <= 1024
         && header.questions == 0
@@ -30,7 +34,7 @@ impl System {
         }
         let body = pack::body(input, alloc, header.length)?;
         let [v, numbers @ ..] = body.as_chunks::<4>().0 else {
-            return Err(Stop::from(NotAPack::Cut));
+            unreachable!()
         };
         Ok(System {
             v: u32::from_le_bytes(*v),
@@ -42,8 +46,8 @@ impl System {
         })
     }
 
-    /// Its answer line. Before the call, number i of the table is 7000 + i.
-    pub fn answer(&self, alloc: Global) -> Result<String, AllocError> {
+    /// The line of the elimination's answer. Before the call, number i of its table is 7000 + i.
+    pub fn answer_line(&self, alloc: Global) -> Result<String, AllocError> {
         let mut table: Vec<i32> = (7000..).take(self.room).collect(alloc)?;
         let heard = Heard::from(call::eliminate(self.v as usize, &self.numbers, &mut table));
         format!(in alloc; "E {heard} {}\n", Table(&table))
