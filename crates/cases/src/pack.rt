@@ -1,10 +1,102 @@
-// The parts of a pack, and what is said of a file that is none.
-ghost use Rattle.std.specs.Prelude.{◌+◌, ◌<◌, ◌≤◌, length, take, IfOk};
+// The parts of a pack, and why standard input is none: tests/PACK.md has the format.
+ghost use Rattle.std.specs.Prelude.{◌≡◌, ◌<◌, ◌≤◌, length, take, vec_len, IfOk};
 ghost use Rattle.std.specs.Io.KnownBytes.{Consumes, IsAtEnd};
 
+use std::alloc::{AllocError, Global};
+use std::fmt;
 use std::io::{self, Read};
 
-// Reads until the room is full or the input ends, and says how many bytes it put at the room's start.
+/// Why standard input is not a pack.
+#[derive(Clone, Copy, Debug, PartialEq, Eq)]
+pub enum NotAPack {
+    /// The file does not begin as a pack does.
+    Start,
+    /// A header breaks the limits.
+    Header,
+    /// The file ends inside a case.
+    Cut,
+}
+
+impl fmt::Display for NotAPack {
+    fn fmt<W: fmt::Write>(&self, f: &mut fmt::Formatter<W>) -> fmt::Result {
+        f.write_str(match self {
+            NotAPack::Start => "it does not begin with BENCHPK1",
+            NotAPack::Header => "a header is out of the limits",
+            NotAPack::Cut => "it ends inside a case",
+        })
+    }
+}
+
+/// What ends the answers before the pack ends.
+#[derive(Debug, Drop)]
+pub enum Stop {
+    NotAPack(NotAPack),
+    Io(io::Error),
+}
+
+impl From<NotAPack> for Stop {
+    fn from(why: NotAPack) -> Stop {
+        Stop::NotAPack(why)
+    }
+}
+
+impl From<io::Error> for Stop {
+    fn from(error: io::Error) -> Stop {
+        Stop::Io(error)
+    }
+}
+
+impl From<AllocError> for Stop {
+    fn from(error: AllocError) -> Stop {
+        Stop::Io(io::Error::from(error))
+    }
+}
+
+/// What a case is, by the first number of its header.
+#[derive(Clone, Copy, Debug, PartialEq, Eq)]
+pub enum Kind {
+    Sheet,
+    System,
+}
+
+impl TryFrom<u32> for Kind {
+    type Error = NotAPack;
+
+    fn try_from(number: u32) -> Result<Kind, NotAPack> {
+        match number {
+            1 => Ok(Kind::Sheet),
+            2 => Ok(Kind::System),
+            _ => Err(NotAPack::Header),
+        }
+    }
+}
+
+/// A header: the kind of its case, and its counts.
+#[derive(Clone, Copy, Debug)]
+pub struct Header {
+    pub kind: Kind,
+    pub room: usize,
+    pub questions: usize,
+    pub length: usize,
+}
+
+impl TryFrom<[u8; 16]> for Header {
+    type Error = NotAPack;
+
+    fn try_from(bytes: [u8; 16]) -> Result<Header, NotAPack> {
+        let [kind, room, questions, length] = bytes.as_chunks::<4>().0 else {
+            unreachable!()
+        };
+        Ok(Header {
+            kind: Kind::try_from(u32::from_le_bytes(*kind))?,
+            room: u32::from_le_bytes(*room) as usize,
+            questions: u32::from_le_bytes(*questions) as usize,
+            length: u32::from_le_bytes(*length) as usize,
+        })
+    }
+}
+
+/// Reads until the room is full or the input ends, and says how many bytes it put at the room's start.
 pub fn read_full<R: Read>(input: &mut R, room: &mut [u8]) -> io::Result<usize>
     ensures within { IfOk result (λ n. n ≤ length room.new) }
     ensures bytes { IfOk result (λ n. Consumes (R.remaining input.old) (R.remaining input.new) (take n room.new)) }
@@ -12,59 +104,43 @@ pub fn read_full<R: Read>(input: &mut R, room: &mut [u8]) -> io::Result<usize>
 {
     let mut done = 0;
     while done < room.len() {
-        let n = input.read(&mut room[done..])?;
-        if n == 0 {
-            break;
+        match input.read(&mut room[done..])? {
+            0 => break,
+            n => done += n,
         }
-        done += n;
     }
     Ok(done)
 }
 
-// Says why standard input is not a pack: no case follows.
-fn refuse(rt: &impl Eprint, why: &str) -> io::Result<bool> {
-    eprintln!(rt; "cases: standard input is not a pack: {why}")?;
-    Ok(false)
-}
-
-// A header breaks the limits.
-pub fn out_of_limits(rt: &impl Eprint) -> io::Result<bool> {
-    refuse(rt, "a header is out of the limits")
-}
-
-// The file ends inside a case.
-pub fn cut(rt: &impl Eprint) -> io::Result<bool> {
-    refuse(rt, "it ends inside a case")
-}
-
-// Whether standard input begins as a pack does.
-pub fn begins(rt: &impl Eprint, input: &mut impl Read) -> io::Result<bool> {
-    let mut magic = [0u8; 8];
+/// Takes the bytes with which a pack begins.
+pub fn start(input: &mut impl Read) -> Result<(), Stop> {
+    let mut magic = [0; 8];
     read_full(input, &mut magic)?;
-    if magic == *b"BENCHPK1" {
-        return Ok(true);
+    if magic != *b"BENCHPK1" {
+        return Err(Stop::from(NotAPack::Start));
     }
-    refuse(rt, "it does not begin with BENCHPK1")
+    Ok(())
 }
 
-// A byte as a number that sums and products of bytes fit.
-fn wide(b: u8) -> u32
-    ensures { result < 256 }
-{
-    b as u32
-}
-
-// The 32-bit number of the four bytes at a place, the low byte first.
-pub fn number(b: &[u8], at: usize) -> u32
-    requires { at + 3 < length b.now }
-{
-    wide(b[at]) + 256 * wide(b[at + 1]) + 65536 * wide(b[at + 2]) + 16777216 * wide(b[at + 3])
-}
-
-// The signed number that 32 bits hold, in two's complement.
-pub fn signed(x: u32) -> i32 {
-    if x < 2147483648 {
-        return x as i32;
+impl Header {
+    /// The next case's header. There is none where the pack ends.
+    pub fn read(input: &mut impl Read) -> Result<Option<Header>, Stop> {
+        let mut bytes = [0; 16];
+        match read_full(input, &mut bytes)? {
+            0 => Ok(None),
+            16 => Ok(Some(Header::try_from(bytes)?)),
+            _ => Err(Stop::from(NotAPack::Cut)),
+        }
     }
-    !((4294967295 - x) as i32)
+}
+
+/// A case's body of so many bytes.
+pub fn body(input: &mut impl Read, alloc: Global, length: usize) -> Result<Vec<u8>, Stop>
+    ensures { IfOk result (λ v. vec_len v ≡ length) }
+{
+    let mut bytes = vec![in alloc; 0; length]?;
+    if read_full(input, &mut bytes)? < length {
+        return Err(Stop::from(NotAPack::Cut));
+    }
+    Ok(bytes)
 }

@@ -1,89 +1,55 @@
 // A system: V and the equations' numbers, for the elimination call.
-ghost use Rattle.std.specs.Prelude.{◌+◌, ◌*◌, ◌≤◌, length};
+ghost use Rattle.std.specs.Prelude.{◌≤◌, IsTrue};
 
-use crate::{answer, pack};
+use crate::answer::{Heard, Table};
+use crate::pack::{self, Header, Kind, NotAPack, Stop};
 use elimination::call;
-use std::io::{self, Read};
+use std::alloc::{AllocError, Global};
+use std::io::Read;
 
-// The numbers of the body after V.
-fn numbers(body: &[u8], out: &mut [i32])
-    requires { 4 + 4 * length out.old ≤ length body.now }
-{
-    for i in 0..out.len() {
-        out[i] = pack::signed(pack::number(body, 4 + 4 * i));
-    }
-}
-
-// The numbers of the call's answer.
-fn heard(a: call::Answer) -> answer::Heard {
-    match a {
-        call::Answer::Accepted(k, f) => answer::Heard {
-            number: 0,
-            place: 0,
-            rounds: k as u64,
-            mask: f,
-        },
-        call::Answer::Refused(n, i) => answer::Heard {
-            number: n as u64,
-            place: i as u64,
-            rounds: 0,
-            mask: 0,
-        },
-    }
-}
-
-// The body as it comes, the call in lent room, and its answer line.
-fn work(
-    rt: &(impl Print + Eprint),
-    input: &mut impl Read,
-    body: &mut [u8],
-    equations: &mut [i32],
-    table: &mut [i32],
-) -> io::Result<bool>
-    requires { (4 + 4 * length equations.old ≤ length body.old) × (length table.old ≤ 1024) }
-{
-    let got = pack::read_full(input, body)?;
-    if got < body.len() {
-        return pack::cut(rt);
-    }
-    let v = pack::number(body, 0) as usize;
-    numbers(body, equations);
-    answer::fill(table);
-    let a = call::eliminate(v, equations, table);
-    answer::say(rt, b"E", heard(a), table)?;
-    answer::end(rt)?;
-    Ok(true)
-}
-
-// A system by its header: its limits, then room for its parts.
-pub fn say(
-    rt: &(impl Print + Eprint),
-    input: &mut impl Read,
+/// A system, and the room of the table that its call is lent.
+#[derive(Debug, Drop)]
+pub struct System {
+    v: u32,
+    numbers: Vec<i32>,
     room: usize,
-    questions: usize,
-    length: usize,
-) -> io::Result<bool> {
-    if 1024 < room {
-        return pack::out_of_limits(rt);
+}
+
+/// Whether a header is one of a system, within its limits.
+fn is_system(header: &Header) -> bool
+    ensures { IsTrue result → 4 ≤ header.now.length }
+{
+    header.kind == Kind::System
+        && header.room <= 1024
+        && header.questions == 0
+        && (4..=16384).contains(&header.length)
+        && header.length % 4 == 0
+}
+
+impl System {
+    /// The system that follows its header.
+    pub fn read(input: &mut impl Read, alloc: Global, header: Header) -> Result<System, Stop> {
+        if !is_system(&header) {
+            return Err(Stop::from(NotAPack::Header));
+        }
+        let body = pack::body(input, alloc, header.length)?;
+        let [v, numbers @ ..] = body.as_chunks::<4>().0 else {
+            unreachable!()
+        };
+        Ok(System {
+            v: u32::from_le_bytes(*v),
+            numbers: numbers
+                .iter()
+                .map(|&n| i32::from_le_bytes(n))
+                .collect(alloc)?,
+            room: header.room,
+        })
     }
-    if length < 4 {
-        return pack::out_of_limits(rt);
+
+    /// The line of the elimination's answer. Before the call, number i of its table is 7000 + i.
+    pub fn answer_line(&self, alloc: Global) -> Result<String, AllocError> {
+        let mut table: Vec<i32> = (7000..).take(self.room).collect(alloc)?;
+        let heard = Heard::from(call::eliminate(self.v as usize, &self.numbers, &mut table));
+        format!(in alloc; "E {heard} {}\n", Table(&table))
     }
-    if 16384 < length {
-        return pack::out_of_limits(rt);
-    }
-    if questions != 0 || length % 4 != 0 {
-        return pack::out_of_limits(rt);
-    }
-    let n = length / 4 - 1;
-    let mut body = [0u8; 16384];
-    let mut equations = [0i32; 4095];
-    let mut table = [0i32; 1024];
-    work(
-        rt,
-        input,
-        &mut body[0..length],
-        &mut equations[0..n],
-        &mut table[0..room],
-    )
 }
