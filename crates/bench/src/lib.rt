@@ -1,15 +1,17 @@
 // The C interface: include/bench.h says what each call does.
 #![tactic(auto)]
 
-ghost use Rattle.std.specs.Prelude.{◌≡◌, ◌≢◌, List, ℤ, length};
-ghost use Rattle.elimination_rules.specs.Answer.{unanswered};
+ghost use Rattle.std.specs.Prelude.{◌≡◌, List, ℤ, length};
 ghost use Rattle.elimination_rules.specs.Call.{eliminated};
 ghost use Rattle.elimination.specs.Heard.{answer_of};
 ghost use Rattle.sheet_rules.specs.Calls.{check, ask_line, lines_part, lines_start};
 ghost use Rattle.bench.specs.Spoken.{spoken_of};
 
+use elimination::progress::Progress;
+use elimination::refusal::Refuses;
+
 #[repr(C)]
-#[derive(Clone, Copy)]
+#[derive(Clone, Copy, Debug, PartialEq, Eq)]
 pub struct BenchAnswer {
     pub number: u32,
     pub rounds: u32,
@@ -17,22 +19,24 @@ pub struct BenchAnswer {
     pub free: u64,
 }
 
-fn spoken(a: elimination::call::Answer) -> BenchAnswer
-    ensures { (t : List ℤ) → answer_of a t ≢ unanswered → answer_of a t ≡ spoken_of result t }
-{
-    match a {
-        elimination::call::Answer::Accepted(k, f) => BenchAnswer {
-            number: 0,
-            rounds: k,
-            place: 0,
-            free: f,
-        },
-        elimination::call::Answer::Refused(n, i) => BenchAnswer {
-            number: n,
-            rounds: 0,
-            place: i as u64,
-            free: 0,
-        },
+impl<R: Refuses> From<Result<Progress, R>> for BenchAnswer {
+    ghost from_gives = { λ answer told. (t : List ℤ) → answer_of R.number R.place answer t ≡ spoken_of told t };
+
+    fn from(answer: Result<Progress, R>) -> BenchAnswer {
+        match answer {
+            Ok(done) => BenchAnswer {
+                number: 0,
+                rounds: done.rounds,
+                place: 0,
+                free: done.free,
+            },
+            Err(refusal) => BenchAnswer {
+                number: refusal.number(),
+                rounds: 0,
+                place: refusal.place() as u64,
+                free: 0,
+            },
+        }
     }
 }
 
@@ -40,25 +44,25 @@ fn spoken(a: elimination::call::Answer) -> BenchAnswer
 pub extern "C" fn bench_eliminate(v: usize, numbers: &[i32], table: &mut [i32]) -> BenchAnswer
     ensures { eliminated v numbers.now table.old ≡ spoken_of result table.new }
 {
-    spoken(elimination::call::eliminate(v, numbers, table))
+    BenchAnswer::from(elimination::call::eliminate(v, numbers, table))
 }
 
 #[unsafe(no_mangle)]
 pub extern "C" fn bench_check(sheet: &[u8], table: &mut [i32]) -> BenchAnswer
     ensures { check sheet.now table.old ≡ spoken_of result table.new }
 {
-    spoken(sheet::call::check(sheet, table))
+    BenchAnswer::from(sheet::call::check(sheet, table))
 }
 
 #[unsafe(no_mangle)]
 pub extern "C" fn bench_line(sheet: &[u8], k: usize, table: &mut [i32]) -> BenchAnswer
     ensures { ask_line sheet.now k table.old ≡ spoken_of result table.new }
 {
-    spoken(sheet::call::ask_line(sheet, k, table))
+    BenchAnswer::from(sheet::call::ask_line(sheet, k, table))
 }
 
 #[repr(C)]
-#[derive(Clone, Copy)]
+#[derive(Clone, Copy, Debug, PartialEq, Eq)]
 pub struct BenchPart {
     pub start: u64,
     pub length: u64,
