@@ -1,5 +1,5 @@
 pub mod Requires
 pub mod Divided
+pub mod Solving
 pub mod Views
-pub mod Heard
-pub mod Coincide
+pub mod Refusals
