@@ -1,5 +1,5 @@
 -- The course of an equation and of equations in order: what they come to, by how each step went.
-use mathlib.Core.Path.{◌≡◌, refl, ap, ◌∙◌, subst}
+use mathlib.Core.Path.{◌≡◌, refl, sym, ap, ◌∙◌, subst}
 use mathlib.Core.Bool.{true, false}
 use mathlib.Core.List.{List}
 use Prim.Native.Nat.{ℕ, zero, suc, ◌+◌, ◌-◌, ◌*◌, ◌/◌, ◌%◌, ◌≤◌, ◌<◌, ◌^◌}
@@ -19,11 +19,14 @@ use Rattle.row.specs.Row.{at, all_in_limit}
 use Rattle.row.specs.Judged.{good, wide as past, judged}
 use Rattle.row.specs.Smallest.{Pick, nothing, column, smallest, size_of}
 use Rattle.row.specs.Smaller.{Least}
-use Rattle.row.specs.Table.{replaced}
+use Rattle.row.specs.Table.{replaced, start}
 use Rattle.row.specs.Tables.{all_at}
+use Rattle.std.specs.Prelude.{Result, Ok, Err}
+use Rattle.whole.specs.declared.number.PastLimit.{PastLimit}
+use Rattle.row.proofs.Judging.{judged_ok}
 use Rattle.row.proofs.RowLoops.{row_less}
 use Rattle.elimination_rules.specs.Round.{Turn, holds, solved, again, clash, wide, upright, round}
-use Rattle.elimination_rules.specs.Equation.{Outcome, done, widened, on_turn, solve, one, Verdict, accepted, on_outcome, each, eliminate}
+use Rattle.elimination_rules.specs.Equation.{Outcome, done, clashed, widened, on_turn, solve, one, Verdict, accepted, on_outcome, each, eliminate}
 use Rattle.elimination_rules.specs.Answer.{Answer, refuses}
 use Rattle.whole.specs.Place.{Found, place, nowhere, on_found}
 use Rattle.elimination_rules.specs.Call.{unused, first_used, fuel, on_verdict, eliminated}
@@ -35,6 +38,107 @@ use Rattle.elimination_rules.proofs.Ways.{turn_ind, round_ind}
 use Rattle.elimination_rules.proofs.Fall.{again_remains, again_tabled}
 use Rattle.elimination_rules.specs.Kept.{start_kept}
 use Rattle.elimination_rules.proofs.Count.{one_kept}
+use Rattle.elimination.specs.Requires.{Countable, smallest_size}
+use Rattle.elimination.specs.Room.{SameRoom, Placed, Lined}
+use Rattle.elimination.specs.Views.{turn_of, outcome_of, verdict_of}
+use Rattle.std.specs.Result.{IsErrAnd}
+use Rattle.elimination.specs.declared.progress.Progress.{Progress}
+use Rattle.elimination.specs.declared.progress.Stop as S
+use Rattle.elimination.specs.declared.progress.Stopped.{Stopped}
+use Rattle.elimination.specs.declared.room.Elimination.{Elimination}
+
+-- "more than any exponent's size"
+pub fuel_enough : (u : ℕ) (e : List ℤ) → all_in_limit e ≡ true → smallest_size u e < fuel
+fuel_enough u e h = by (smallest (take u e)) (least_unknown u e)
+  where
+    by : (b : Pick) → Least e u b → size_of b < fuel
+    by nothing l = omega arith
+    by (column j a) l =
+        let s : 0 < nat_abs (at e j) = omega (arith, l.1, l.2) in
+        omega (arith, l.1, leb-true (nat_abs (at e j)) limit (all_at in_limit (pos 0) e j h (in_length e j (sized (at e j) s))))
+
+-- ---- the rounds of an equation
+-- A round that ends them.
+pub solve_ends : (u v : ℕ) (t e : List ℤ) (k f : ℕ) (a : Turn) (o : Outcome) → round quotient u v t e f ≡ a → ((go : List ℤ → List ℤ → Outcome) → on_turn go k f a ≡ o)
+    → (n : ℕ) → smallest_size u e < n → solve quotient n u v t e k f ≡ o
+unfolding solve
+solve_ends u v t e k f a o r h zero l = absurd (omega arith)
+solve_ends u v t e k f a o r h (suc n) l = rw r (h (λ t' e'. solve quotient n u v t' e' (k + 1) f))
+
+-- A round that ends the work.
+pub solve_stops : (u v : ℕ) (t e : List ℤ) (k f : ℕ) (t' e' : List ℤ) (s : S.Stop) → round quotient u v t e f ≡ turn_of (Err s) t' e'
+    → (r : Result Progress S.Stop) → IsErrAnd r (λ x. x ≡ s) → (n : ℕ) → smallest_size u e < n → solve quotient n u v t e k f ≡ outcome_of r t'
+solve_stops u v t e k f t' e' S.TheVariants.Clash h (Err S.TheVariants.Clash) x = solve_ends u v t e k f clash clashed h (λ go. refl)
+solve_stops u v t e k f t' e' S.TheVariants.Wide h (Err S.TheVariants.Wide) x = solve_ends u v t e k f wide widened h (λ go. refl)
+solve_stops u v t e k f t' e' S.TheVariants.Clash h (Err S.TheVariants.Wide) x = cc
+solve_stops u v t e k f t' e' S.TheVariants.Wide h (Err S.TheVariants.Clash) x = cc
+solve_stops u v t e k f t' e' s h (Ok p) x = absurd x
+
+-- A round that goes on leaves an equation as it was, but smaller.
+pub record Going (u v : ℕ) (t e : List ℤ) (k f : ℕ) (t' e' : List ℤ) : Type 0 where
+  pub turn : round quotient u v t e f ≡ again t' e'
+  pub smaller : smallest_size u e' < smallest_size u e
+  pub counts : k + 1 < 2 ^ 32
+  pub countable : Countable u (k + 1) e'
+  pub table : all_in_limit t' ≡ true
+  pub equation : all_in_limit e' ≡ true
+
+pub solve_goes : {u v : ℕ} {t e : List ℤ} {k f : ℕ} {t' e' : List ℤ} (o : Outcome) → Going u v t e k f t' e'
+    → ((n : ℕ) → smallest_size u e' < n → solve quotient n u v t' e' (k + 1) f ≡ o) → (n : ℕ) → smallest_size u e < n → solve quotient n u v t e k f ≡ o
+unfolding solve
+solve_goes o g h zero l = absurd (omega arith)
+solve_goes o g h (suc n) l = rw g.turn (h n (omega arith))
+
+module _ (u v : ℕ) (t e : List ℤ) (rows : length t ≡ v * length e) (limited : all_in_limit e ≡ true) (k f : ℕ) (c : Countable u k e) where
+  pub going : {t' e' : List ℤ} → round quotient u v t e f ≡ again t' e' → Going u v t e k f t' e'
+  going {t'} {e'} r =
+      let m = again_remains rounded_down u v t e f r in
+      let h = again_tabled quotient u v (length e) t e f refl rows r in
+      record { turn = r; smaller = m.smaller; counts = omega arith; countable = omega arith; table = h.limited; equation = m.limited limited }
+
+  -- One that solves has picked an unknown, so that it can be counted.
+  abbrev Counts : Turn → Type 0
+  Counts (holds t') = Unit {0}
+  Counts (solved t' f') = k + 1 < 2 ^ 32
+  Counts (again t' e') = Unit {0}
+  Counts clash = Unit {0}
+  Counts wide = Unit {0}
+
+  pub solved_counts : {t' : List ℤ} {f' : ℕ} → round quotient u v t e f ≡ solved t' f' → k + 1 < 2 ^ 32
+  solved_counts r =
+      subst Counts r
+      (round_ind quotient u v (length e) t f Counts e (λ _ _. tt) (λ _ _. tt)
+      (λ j p. turn_ind quotient u v (length e) t f Counts (upright e j) j (length_upright e j)
+      (record { solves = λ _ _ _. omega (arith, p.some, p.size); clashes = λ _ _. tt; goes_on = λ _ _. tt; widens = tt })))
+
+-- ---- one equation
+good_in_limit : (r e : List ℤ) → judged r ≡ good e → all_in_limit e ≡ true
+good_in_limit r e j = let h = judged_ok r e (Ok tt) j refl in ap all_in_limit h.0 ∙ h.1
+
+-- What the code says of a row past the limit.
+pub said_widened : {o : Outcome} → o ≡ widened → (r : Result Progress S.Stop) (t : List ℤ) → IsErrAnd r (λ x. x ≡ S.TheVariants.Wide) → o ≡ outcome_of r t
+said_widened w (Err S.TheVariants.Wide) t h = w
+said_widened w (Err S.TheVariants.Clash) t h = cc
+said_widened w (Ok p) t h = absurd h
+
+module _ (u v : ℕ) (t e : List ℤ) (k f : ℕ) where
+  pub one_wide : all_in_limit e ≡ false → one quotient fuel u v t e k f ≡ widened
+  unfolding one
+  one_wide h = rw h
+
+  module _ (h : all_in_limit e ≡ true) where
+    pub replaced_wide : judged (replaced u v t e) ≡ past → one quotient fuel u v t e k f ≡ widened
+    unfolding one
+    replaced_wide j = rw (h, j)
+
+    pub one_solves : (e' : List ℤ) (o : Outcome) → judged (replaced u v t e) ≡ good e' → ((n : ℕ) → smallest_size u e' < n → solve quotient n u v t e' k f ≡ o)
+        → one quotient fuel u v t e k f ≡ o
+    unfolding one
+    one_solves e' o j s = rw (h, j) (s fuel (fuel_enough u e' (good_in_limit (replaced u v t e) e' j)))
+
+-- What is then solved.
+pub replaced_countable : (u k : ℕ) (r e' : List ℤ) → judged r ≡ good e' → k + 100000000 < 2 ^ 32 → (all_in_limit e' ≡ true) × Countable u k e'
+replaced_countable u k r e' j c = let h = good_in_limit r e' j in (h, omega (arith, fuel_enough u e' h))
 
 -- ---- a loop over m rows of w numbers, end to end in es: i are behind, and the rest starts at a
 pub record Passed (w m : ℕ) (es : List ℤ) (a i : ℕ) : Type 0 where
@@ -78,3 +182,92 @@ module _ {u v w m : ℕ} {es : List ℤ} {a i : ℕ} (S : Searched u v w m es a 
     pub searched_more : unused u v (take w (drop a es)) ≡ true → Searched u v w m es (a + w) (i + 1)
     searched_more e = record { passed = passed_more S.passed h; is = rw (← drop-drop w a es) (rw e at next) }
 
+-- ---- the equations in order: the table is t after k rounds, with the word f
+pub record Lining (u v w m : ℕ) (es t : List ℤ) (k f a i : ℕ) : Type 0 where
+  pub passed : Passed w m es a i
+  pub kept : Kept u v w t f
+  pub counted : k + fuel * count v f ≤ fuel * v
+  pub is : eliminate quotient fuel u v w m es ≡ each quotient fuel u v w (m - i) i (drop a es) t k f
+
+module _ {s : Elimination} {es : List ℤ} {m : ℕ} (S : Lined s es m) where
+  abbrev u : ℕ
+  u = s.unknown_columns
+
+  abbrev v : ℕ
+  v = s.unknowns
+
+  abbrev w : ℕ
+  w = length s.equation.now
+
+  pub lining_none : (t : List ℤ) → t ≡ start w v → Lining u v w m es t 0 (first_set v) 0 0
+  lining_none t b = record {
+    passed = passed_none S.long;
+    kept = rw b (start_kept u v w (omega (arith, S.unknowns, s.columns)));
+    counted = rw (count_first v) (omega arith);
+    is = rw (sub-zero, b);
+  }
+
+  module _ {t : List ℤ} {k f a i : ℕ} (L : Lining u v w m es t k f a i) where
+    pub lining_end : m ≤ i → eliminate quotient fuel u v w m es ≡ accepted t k f
+    unfolding each
+    lining_end h = let z : m - i ≡ 0 = omega arith in rw z at L.is
+
+    module _ (h : i < m) where
+      abbrev e : List ℤ
+      e = take w (drop a es)
+
+      abbrev rest : List ℤ → ℕ → ℕ → Verdict
+      rest t' k' f' = each quotient fuel u v w (m - (i + 1)) (i + 1) (drop w (drop a es)) t' k' f'
+
+      next_one : eliminate quotient fuel u v w m es ≡ on_outcome rest i (one quotient fuel u v t e k f)
+      unfolding each
+      next_one = let d : m - i ≡ suc (m - (i + 1)) = omega arith in rw d at L.is
+
+      -- The rounds still fit.
+      pub lining_placed : {s' : Elimination} → SameRoom s s' → s'.table.now ≡ t → Placed s' e k
+      lining_placed {s'} R x = record {
+        table = ap all_in_limit x ∙ L.kept.limit;
+        unknowns = omega (arith, S.unknowns, R.unknowns, R.unknown_columns);
+        sums = R.sums_room ∙ S.sums ∙ sym R.width;
+        long = passed_part L.passed h ∙ sym R.width;
+        count = omega (arith, L.counted, S.few);
+      }
+
+      pub lining_stop : (o : Outcome) (z : Verdict) → one quotient fuel u v t e k f ≡ o → ((go : List ℤ → ℕ → ℕ → Verdict) → on_outcome go i o ≡ z)
+          → eliminate quotient fuel u v w m es ≡ z
+      lining_stop o z r g = rw r at next_one ∙ g rest
+
+      pub lining_more : (t' : List ℤ) (k' f' : ℕ) → one quotient fuel u v t e k f ≡ done t' k' f' → Lining u v w m es t' k' f' (a + w) (i + 1)
+      lining_more t' k' f' r =
+          let n = one_kept rounded_down fuel u v w (omega (arith, S.unknowns, s.columns)) (omega (arith, S.unknowns, s.word)) t e k f (passed_part L.passed h) L.kept r in
+          record { passed = passed_more L.passed h; kept = n.0; counted = omega (arith, n.1); is = rw (← drop-drop w a es) (rw r at next_one) }
+
+-- ---- the call
+module _ (v : ℕ) (es lent : List ℤ) where
+  pub refuses_unknowns : 24 < v → eliminated v es lent ≡ refuses 3 0 lent
+  unfolding eliminated
+  refuses_unknowns h = rw (lt-ltb 24 v h)
+
+  module _ (a : v ≤ 24) where
+    pub refuses_length : (length es % 32 ≡ 0 → ⊥) → eliminated v es lent ≡ refuses 4 0 lent
+    unfolding eliminated
+    refuses_length h = rw (le-ltb 24 v a, ne_eqb (length es % 32) 0 h)
+
+    abbrev worked : Answer
+    worked = on_verdict lent (eliminate quotient fuel 24 v 32 (length es / 32) es)
+
+    module _ (b : length es % 32 ≡ 0) where
+      found : (x : Found) → first_used 24 v 32 (length es / 32) 0 es ≡ x
+          → eliminated v es lent ≡ on_found (λ i. refuses 5 i lent) (if (ltb (length lent) (32 * v)) (refuses 8 0 lent) worked) x
+      unfolding eliminated
+      found x e = rw (le-ltb 24 v a, eq-eqb (length es % 32) 0 b, e)
+
+      pub refuses_column : (i : ℕ) → first_used 24 v 32 (length es / 32) 0 es ≡ place i → eliminated v es lent ≡ refuses 5 i lent
+      refuses_column i e = found (place i) e
+
+      module _ (e : first_used 24 v 32 (length es / 32) 0 es ≡ nowhere) where
+        pub refuses_room : length lent < 32 * v → eliminated v es lent ≡ refuses 8 0 lent
+        refuses_room h = rw (lt-ltb (length lent) (32 * v) h) at (found nowhere e)
+
+        pub is_worked : 32 * v ≤ length lent → eliminated v es lent ≡ worked
+        is_worked h = rw (le-ltb (length lent) (32 * v) h) at (found nowhere e)

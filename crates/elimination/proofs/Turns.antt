@@ -19,11 +19,11 @@ use Rattle.elimination_rules.specs.Round.{Turn, swaps, upright, solved, again, c
 use Rattle.elimination_rules.specs.Upright.{least_unknown}
 use Rattle.elimination.specs.Requires.{Picked}
 use Rattle.elimination.specs.Divided.{Divided}
-use Rattle.elimination.specs.Solving.{SameRoom}
+use Rattle.elimination.specs.Room.{SameRoom}
 use Rattle.elimination.specs.Views.{turn_of}
 use Rattle.elimination.specs.declared.progress.Stop as S
 use Rattle.elimination.specs.declared.round.Turned as T
-use Rattle.elimination.specs.declared.solving.Solving.{Solving}
+use Rattle.elimination.specs.declared.room.Elimination.{Elimination}
 
 -- What the code says of a row past the limit.
 pub said_wide : {a : Turn} → a ≡ wide → (r : Result T.Turned S.Stop) (t e : List ℤ) → IsErrAnd r (λ s. s ≡ S.TheVariants.Wide) → a ≡ turn_of r t e
@@ -32,7 +32,7 @@ said_wide w (Err S.TheVariants.Clash) t e h = cc
 said_wide w (Ok x) t e h = absurd h
 
 -- ---- the round that picked j of s, and left b when it had divided
-module _ {s b : Solving} (f j : ℕ) {p : ℤ} (D : Divided (upright s.equation.now j) j p b.equation.now b.quotients.now) (T : b.table.now ≡ s.table.now) (R : SameRoom s b) where
+module _ {s b : Elimination} (f j : ℕ) {p : ℤ} (D : Divided (upright s.equation.now j) j p b.equation.now b.quotients.now) (T : b.table.now ≡ s.table.now) (R : SameRoom s b) where
   abbrev turned : Turn
   turned = turn quotient s.unknown_columns s.unknowns s.table.now (upright s.equation.now j) f j
 
@@ -42,7 +42,7 @@ module _ {s b : Solving} (f j : ℕ) {p : ℤ} (D : Divided (upright s.equation.
     is_clash y = rw (← D.rest, ← R.unknown_columns, x, y)
 
     module _ (y : all_zero (drop b.unknown_columns b.equation.now) ≡ true)
-        {r : Result (Unit {0}) PastLimit} {t : List ℤ} (z : judged (swaps b.unknowns j b.quotients.now b.table.now) ≡ judged_of r t) where
+        {r : Result (Unit {0}) PastLimit} (t : List ℤ) (z : judged (swaps b.unknowns j b.quotients.now b.table.now) ≡ judged_of r t) where
       pub is_solved : {u : Unit {0}} → r ≡ Ok u → turned ≡ solved t (cleared f j)
       unfolding turn
       is_solved o = rw (← D.rest, ← D.times, ← R.unknown_columns, ← R.unknowns, ← T, x, y, z, o)
@@ -52,7 +52,7 @@ module _ {s b : Solving} (f j : ℕ) {p : ℤ} (D : Divided (upright s.equation.
       solves_wide o = rw (← D.rest, ← D.times, ← R.unknown_columns, ← R.unknowns, ← T, x, y, z, o)
 
   module _ (x : all_zero (take b.unknown_columns b.equation.now) ≡ false)
-      {r : Result (Unit {0}) PastLimit} {t : List ℤ} (z : judged (swaps b.unknowns j (set b.quotients.now j (pos 0)) b.table.now) ≡ judged_of r t) where
+      {r : Result (Unit {0}) PastLimit} (t : List ℤ) (z : judged (swaps b.unknowns j (set b.quotients.now j (pos 0)) b.table.now) ≡ judged_of r t) where
     pub is_again : {u : Unit {0}} → r ≡ Ok u → turned ≡ again t (set b.equation.now j p)
     unfolding turn
     is_again o = rw (← D.rest, ← D.times, ← D.divisor, ← R.unknown_columns, ← R.unknowns, ← T, x, z, o)

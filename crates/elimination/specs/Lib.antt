@@ -1,5 +1,5 @@
 pub mod Requires
 pub mod Divided
-pub mod Solving
+pub mod Room
 pub mod Views
 pub mod Refusals

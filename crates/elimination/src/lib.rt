@@ -2,8 +2,9 @@
 #![tactic(auto)]
 
 pub mod columns;
+pub mod equation;
 pub mod progress;
 pub mod refusal;
+pub mod room;
 pub mod round;
-pub mod solving;
 pub mod table;

@@ -7,12 +7,12 @@ ghost use Rattle.row.specs.Picked.{pick_of};
 ghost use Rattle.row.specs.Judged.{judged, judged_of};
 ghost use Rattle.elimination_rules.specs.Round.{upright as upright_row, swaps, turn as rule_turn, round as rule_round};
 ghost use Rattle.elimination.specs.Requires.{Picked as PickedColumn};
-ghost use Rattle.elimination.specs.Solving.{Ready, SameRoom};
+ghost use Rattle.elimination.specs.Room.{Ready, SameRoom};
 ghost use Rattle.elimination.specs.Divided.{Divided};
 ghost use Rattle.elimination.specs.Views.{turn_of};
 
 use crate::progress::Stop;
-use crate::solving::Solving;
+use crate::room::Elimination;
 use row::smallest::Picked;
 use whole::number::PastLimit;
 
@@ -34,7 +34,7 @@ pub fn upright(e: &mut [i32], j: usize)
     }
 }
 
-impl Solving<'_> {
+impl Elimination<'_> {
     fn smallest(&self) -> Option<Picked>
         ensures { pick_of result ≡ smallest_pick (take self.now.unknown_columns self.now.equation.now) }
     {

@@ -1,0 +1,96 @@
+// One equation, and equations in order.
+ghost use Rattle.std.specs.Prelude.{◌≡◌, ℕ, ◌≤◌, ◌<◌, length};
+ghost use Rattle.whole.specs.Division.{quotient};
+ghost use Rattle.row.specs.Judged.{judged, judged_of};
+ghost use Rattle.row.specs.Requires.{Replaceable};
+ghost use Rattle.row.specs.Table.{start as start_table, replaced};
+ghost use Rattle.elimination_rules.specs.Equation.{solve as rule_solve, one as rule_one, eliminate as rule_eliminate};
+ghost use Rattle.elimination_rules.specs.Call.{fuel};
+ghost use Rattle.elimination.specs.Requires.{Countable, smallest_size};
+ghost use Rattle.elimination.specs.Room.{Ready, Placed, Lined, SameRoom};
+ghost use Rattle.elimination.specs.Views.{outcome_of, verdict_of};
+
+use crate::progress::{Progress, Stop, Stopped};
+use crate::round::Turned;
+use crate::room::Elimination;
+use whole::number::PastLimit;
+
+impl Elimination<'_> {
+    /// "and repeat with what remains": the smallest unknown's size falls at each call.
+    pub fn solve(&mut self, done: Progress) -> Result<Progress, Stop>
+        requires { Ready self.old × Countable self.old.unknown_columns done.rounds self.old.equation.now }
+        ensures solved { (n : ℕ) → smallest_size self.old.unknown_columns self.old.equation.now < n → rule_solve quotient n self.old.unknown_columns self.old.unknowns self.old.table.now self.old.equation.now done.rounds done.free ≡ outcome_of result self.new.table.now }
+        ensures room { SameRoom self.old self.new }
+    {
+        match self.round(done.free)? {
+            Turned::Holds => Ok(done),
+            Turned::Solved(free) => Ok(Progress {
+                rounds: done.rounds + 1,
+                free,
+            }),
+            Turned::Again => self.solve(Progress {
+                rounds: done.rounds + 1,
+                free: done.free,
+            }),
+        }
+    }
+
+    /// The table becomes each unknown equal to itself.
+    pub fn start(&mut self)
+        requires { self.old.unknowns ≤ length self.old.equation.now }
+        ensures begins { self.new.table.now ≡ start_table (length self.old.equation.now) self.old.unknowns }
+        ensures room { SameRoom self.old self.new }
+    {
+        let w = self.equation.len();
+        let v = self.unknowns;
+        crate::table::start(self.table, w, v);
+    }
+
+    /// The equation becomes e with each unknown replaced by its row.
+    fn replace(&mut self, e: &[i32]) -> Result<(), PastLimit>
+        requires { Replaceable self.old.unknown_columns self.old.unknowns self.old.table.now e.now self.old.sums.now self.old.equation.now }
+        ensures judged { judged (replaced self.old.unknown_columns self.old.unknowns self.old.table.now e.now) ≡ judged_of result self.new.equation.now }
+        ensures table { self.new.table.now ≡ self.old.table.now }
+        ensures room { SameRoom self.old self.new }
+    {
+        let u = self.unknown_columns;
+        let v = self.unknowns;
+        let sums = &mut *self.sums;
+        let table = &mut *self.table;
+        let equation = &mut *self.equation;
+        row::add::replace(sums, table, e, equation, u, v)
+    }
+
+    /// One equation: judged, its unknowns replaced, judged again, and solved.
+    pub fn one(&mut self, e: &[i32], done: Progress) -> Result<Progress, Stop>
+        requires { Placed self.old e.now done.rounds }
+        ensures outcome { rule_one quotient fuel self.old.unknown_columns self.old.unknowns self.old.table.now e.now done.rounds done.free ≡ outcome_of result self.new.table.now }
+        ensures room { SameRoom self.old self.new }
+    {
+        if !row::test::all_in_limit(e) {
+            return Err(Stop::Wide);
+        }
+        self.replace(e)?;
+        self.solve(done)
+    }
+
+    /// The equations in order, from the start of the table.
+    pub fn each(&mut self, es: &[i32], count: usize) -> Result<Progress, Stopped>
+        requires { Lined self.old es.now count }
+        ensures verdict { rule_eliminate quotient fuel self.old.unknown_columns self.old.unknowns (length self.old.equation.now) count es.now ≡ verdict_of result self.new.table.now }
+        ensures room { SameRoom self.old self.new }
+    {
+        self.start();
+        let w = self.equation.len();
+        let mut done = Progress {
+            rounds: 0,
+            free: whole::word::first(self.unknowns),
+        };
+        for i in 0..count {
+            done = self
+                .one(&es[i * w..(i + 1) * w], done)
+                .map_err(|why| Stopped { why, at: i })?;
+        }
+        Ok(done)
+    }
+}
