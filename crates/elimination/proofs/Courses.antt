@@ -26,7 +26,7 @@ use Rattle.whole.specs.declared.number.PastLimit.{PastLimit}
 use Rattle.row.proofs.Judging.{judged_ok}
 use Rattle.row.proofs.RowLoops.{row_less}
 use Rattle.elimination_rules.specs.Round.{Turn, holds, solved, again, clash, wide, upright, round}
-use Rattle.elimination_rules.specs.Equation.{Outcome, done, clashed, widened, on_turn, solve, one, Verdict, accepted, on_outcome, each, eliminate}
+use Rattle.elimination_rules.specs.Equation.{Outcome, done, clashed, widened, on_turn, solve, one, Verdict, accepted, clash_at, wide_at, on_outcome, each, eliminate}
 use Rattle.elimination_rules.specs.Answer.{Answer, refuses}
 use Rattle.whole.specs.Place.{Found, place, nowhere, on_found}
 use Rattle.elimination_rules.specs.Call.{unused, first_used, fuel, on_verdict, eliminated}
@@ -41,9 +41,9 @@ use Rattle.elimination_rules.proofs.Count.{one_kept}
 use Rattle.elimination.specs.Requires.{Countable, smallest_size}
 use Rattle.elimination.specs.Room.{SameRoom, Placed, Lined}
 use Rattle.elimination.specs.Views.{turn_of, outcome_of, verdict_of}
-use Rattle.std.specs.Result.{IsErrAnd}
+use Rattle.std.specs.Result.{IsErrAnd, MatchResult}
 use Rattle.elimination.specs.declared.progress.Progress.{Progress}
-use Rattle.elimination.specs.declared.progress.Stop as S
+use Rattle.elimination.specs.declared.progress.Stop as Why
 use Rattle.elimination.specs.declared.progress.Stopped.{Stopped}
 use Rattle.elimination.specs.declared.room.Elimination.{Elimination}
 
@@ -66,12 +66,12 @@ solve_ends u v t e k f a o r h zero l = absurd (omega arith)
 solve_ends u v t e k f a o r h (suc n) l = rw r (h (λ t' e'. solve quotient n u v t' e' (k + 1) f))
 
 -- A round that ends the work.
-pub solve_stops : (u v : ℕ) (t e : List ℤ) (k f : ℕ) (t' e' : List ℤ) (s : S.Stop) → round quotient u v t e f ≡ turn_of (Err s) t' e'
-    → (r : Result Progress S.Stop) → IsErrAnd r (λ x. x ≡ s) → (n : ℕ) → smallest_size u e < n → solve quotient n u v t e k f ≡ outcome_of r t'
-solve_stops u v t e k f t' e' S.TheVariants.Clash h (Err S.TheVariants.Clash) x = solve_ends u v t e k f clash clashed h (λ go. refl)
-solve_stops u v t e k f t' e' S.TheVariants.Wide h (Err S.TheVariants.Wide) x = solve_ends u v t e k f wide widened h (λ go. refl)
-solve_stops u v t e k f t' e' S.TheVariants.Clash h (Err S.TheVariants.Wide) x = cc
-solve_stops u v t e k f t' e' S.TheVariants.Wide h (Err S.TheVariants.Clash) x = cc
+pub solve_stops : (u v : ℕ) (t e : List ℤ) (k f : ℕ) (t' e' : List ℤ) (s : Why.Stop) → round quotient u v t e f ≡ turn_of (Err s) t' e'
+    → (r : Result Progress Why.Stop) → IsErrAnd r (λ x. x ≡ s) → (n : ℕ) → smallest_size u e < n → solve quotient n u v t e k f ≡ outcome_of r t'
+solve_stops u v t e k f t' e' Why.TheVariants.Clash h (Err Why.TheVariants.Clash) x = solve_ends u v t e k f clash clashed h (λ go. refl)
+solve_stops u v t e k f t' e' Why.TheVariants.Wide h (Err Why.TheVariants.Wide) x = solve_ends u v t e k f wide widened h (λ go. refl)
+solve_stops u v t e k f t' e' Why.TheVariants.Clash h (Err Why.TheVariants.Wide) x = cc
+solve_stops u v t e k f t' e' Why.TheVariants.Wide h (Err Why.TheVariants.Clash) x = cc
 solve_stops u v t e k f t' e' s h (Ok p) x = absurd x
 
 -- A round that goes on leaves an equation as it was, but smaller.
@@ -116,9 +116,9 @@ good_in_limit : (r e : List ℤ) → judged r ≡ good e → all_in_limit e ≡ 
 good_in_limit r e j = let h = judged_ok r e (Ok tt) j refl in ap all_in_limit h.0 ∙ h.1
 
 -- What the code says of a row past the limit.
-pub said_widened : {o : Outcome} → o ≡ widened → (r : Result Progress S.Stop) (t : List ℤ) → IsErrAnd r (λ x. x ≡ S.TheVariants.Wide) → o ≡ outcome_of r t
-said_widened w (Err S.TheVariants.Wide) t h = w
-said_widened w (Err S.TheVariants.Clash) t h = cc
+pub said_widened : {o : Outcome} → o ≡ widened → (r : Result Progress Why.Stop) (t : List ℤ) → IsErrAnd r (λ x. x ≡ Why.TheVariants.Wide) → o ≡ outcome_of r t
+said_widened w (Err Why.TheVariants.Wide) t h = w
+said_widened w (Err Why.TheVariants.Clash) t h = cc
 said_widened w (Ok p) t h = absurd h
 
 module _ (u v : ℕ) (t e : List ℤ) (k f : ℕ) where
@@ -139,6 +139,35 @@ module _ (u v : ℕ) (t e : List ℤ) (k f : ℕ) where
 -- What is then solved.
 pub replaced_countable : (u k : ℕ) (r e' : List ℤ) → judged r ≡ good e' → k + 100000000 < 2 ^ 32 → (all_in_limit e' ≡ true) × Countable u k e'
 replaced_countable u k r e' j c = let h = good_in_limit r e' j in (h, omega (arith, fuel_enough u e' h))
+
+-- What `map_err` was given, by what it made of it.
+module _ {A B C : Type 0} (r : Result A B) {r' : Result A C} (P : B → C → Type 0) (m : MatchResult r (λ x. r' ≡ Ok x) (λ y. IsErrAnd r' (P y))) where
+  pub mapped_ok : {x : A} → r' ≡ Ok x → r ≡ Ok x
+  mapped_ok {x} e = by r m
+    where
+      by : (r : Result A B) → MatchResult r (λ x. r' ≡ Ok x) (λ y. IsErrAnd r' (P y)) → r ≡ Ok x
+      by (Ok y) m = cc
+      by (Err y) m = absurd (rw e at m)
+
+  pub mapped_err : {z : C} → r' ≡ Err z → (y : B) × ((r ≡ Err y) × P y z)
+  mapped_err {z} e = by r m
+    where
+      by : (r : Result A B) → MatchResult r (λ x. r' ≡ Ok x) (λ y. IsErrAnd r' (P y)) → (y : B) × ((r ≡ Err y) × P y z)
+      by (Ok y) m = cc
+      by (Err y) m = (y, (refl, rw e at m))
+
+-- What two methods keep, one after the other.
+pub room_again : {s t x : Elimination} → SameRoom s t → SameRoom t x → SameRoom s x
+room_again a b = record {
+  unknown_columns = b.unknown_columns ∙ a.unknown_columns;
+  unknowns = b.unknowns ∙ a.unknowns;
+  width = b.width ∙ a.width;
+  sums_room = b.sums_room ∙ a.sums_room;
+  table = b.table ∙ a.table;
+  equation = b.equation ∙ a.equation;
+  quotients = b.quotients ∙ a.quotients;
+  sums = b.sums ∙ a.sums;
+}
 
 -- ---- a loop over m rows of w numbers, end to end in es: i are behind, and the rest starts at a
 pub record Passed (w m : ℕ) (es : List ℤ) (a i : ℕ) : Type 0 where
@@ -233,9 +262,15 @@ module _ {s : Elimination} {es : List ℤ} {m : ℕ} (S : Lined s es m) where
         count = omega (arith, L.counted, S.few);
       }
 
-      pub lining_stop : (o : Outcome) (z : Verdict) → one quotient fuel u v t e k f ≡ o → ((go : List ℤ → ℕ → ℕ → Verdict) → on_outcome go i o ≡ z)
-          → eliminate quotient fuel u v w m es ≡ z
-      lining_stop o z r g = rw r at next_one ∙ g rest
+      stop : (o : Outcome) (z : Verdict) → one quotient fuel u v t e k f ≡ o → ((go : List ℤ → ℕ → ℕ → Verdict) → on_outcome go i o ≡ z) → eliminate quotient fuel u v w m es ≡ z
+      stop o z r g = rw r at next_one ∙ g rest
+
+      -- Equation i ended the work, and the code says so.
+      pub lining_stop : (why : Why.Stop) (t' : List ℤ) → one quotient fuel u v t e k f ≡ outcome_of (Err why) t' → (d : Stopped) → d ≡ record { why = why; at = i }
+          → (r : Result Progress Stopped) → IsErrAnd r (λ x. x ≡ d) → eliminate quotient fuel u v w m es ≡ verdict_of r t'
+      lining_stop Why.TheVariants.Clash t' h d d' (Err x) x' = rw (x', d') (stop clashed (clash_at i) h (λ go. refl))
+      lining_stop Why.TheVariants.Wide t' h d d' (Err x) x' = rw (x', d') (stop widened (wide_at i) h (λ go. refl))
+      lining_stop why t' h d d' (Ok p) x' = absurd x'
 
       pub lining_more : (t' : List ℤ) (k' f' : ℕ) → one quotient fuel u v t e k f ≡ done t' k' f' → Lining u v w m es t' k' f' (a + w) (i + 1)
       lining_more t' k' f' r =
