@@ -45,6 +45,9 @@ use Rattle.std.specs.Result.{IsErrAnd, MatchResult}
 use Rattle.elimination.specs.declared.progress.Progress.{Progress}
 use Rattle.elimination.specs.declared.progress.Stop as Why
 use Rattle.elimination.specs.declared.progress.Stopped.{Stopped}
+use Rattle.elimination.specs.declared.refusal.Refusal.{Refusal}
+use Rattle.elimination.specs.Refusals.{number_of, place_of}
+use Rattle.elimination.specs.Heard.{answer_of}
 use Rattle.elimination.specs.declared.room.Elimination.{Elimination}
 
 -- "more than any exponent's size"
@@ -278,6 +281,11 @@ module _ {s : Elimination} {es : List ℤ} {m : ℕ} (S : Lined s es m) where
           record { passed = passed_more L.passed h; kept = n.0; counted = omega (arith, n.1); is = rw (← drop-drop w a es) (rw r at next_one) }
 
 -- ---- the call
+-- What the code says of a refusal d.
+pub said_refused : (d : Refusal) (r : Result Progress Refusal) (t : List ℤ) → IsErrAnd r (λ x. x ≡ d) → refuses (number_of d) (place_of d) t ≡ answer_of number_of place_of r t
+said_refused d (Err x) t e = rw e refl
+said_refused d (Ok p) t e = absurd e
+
 module _ (v : ℕ) (es lent : List ℤ) where
   pub refuses_unknowns : 24 < v → eliminated v es lent ≡ refuses 3 0 lent
   unfolding eliminated

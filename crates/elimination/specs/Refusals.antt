@@ -30,6 +30,12 @@ refusal_at S.TheVariants.Wide i = R.TheVariants.Wide i
 abbrev pub refusal_of : Stopped → R.Refusal
 refusal_of s = refusal_at s.why s.at
 
+abbrev pub stopped_number : Stopped → ℕ
+stopped_number s = number_of (refusal_of s)
+
+abbrev pub stopped_place : Stopped → ℕ
+stopped_place s = place_of (refusal_of s)
+
 -- A refusal's number is never 0.
 pub number_some : (r : R.Refusal) → 0 < number_of r
 number_some R.TheVariants.TooManyUnknowns = omega arith

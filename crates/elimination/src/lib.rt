@@ -1,6 +1,7 @@
 // The elimination: its own layer, which knows nothing of lines.
 #![tactic(auto)]
 
+pub mod call;
 pub mod columns;
 pub mod equation;
 pub mod progress;
