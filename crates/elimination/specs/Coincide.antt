@@ -1,7 +1,7 @@
 -- What the contract of `eliminate` says of its results: any two that it permits coincide, and the rows of an accepted table are
 -- within the limit.
-use Rattle.std.specs.Prelude.{◌≡◌, refl, ◌≢◌, true, List, ℕ, zero, suc, ◌*◌, ◌<◌, ℤ, take, Result, Ok, Err}
-use Rattle.std.proofs.Common.{sym, ◌∙◌, ap, arith}
+use Rattle.std.specs.Prelude.{◌≡◌, refl, ◌≢◌, true, List, [], ℕ, ◌*◌, ◌<◌, ℤ, take, Result, Ok, Err}
+use Rattle.std.proofs.Common.{sym, ◌∙◌, ap, ap₂, arith}
 use Rattle.row.specs.Row.{all_in_limit}
 use Rattle.elimination_rules.specs.Answer.{Answer, heard, unanswered}
 use Rattle.elimination_rules.specs.Call.{eliminated}
@@ -35,7 +35,7 @@ table unanswered = []
 -- For any call, and refusals that a number above 0 and a place tell apart: two results that say the same are the same.
 module _ {E : Type 0} (number_of place_of : E → ℕ) (never_zero : (r : E) → 0 < number_of r) (told_apart : (r s : E) → number_of r ≡ number_of s → place_of r ≡ place_of s → r ≡ s) where
   same_result : (r r' : Result Progress E) (t t' : List ℤ) → answer_of number_of place_of r t ≡ answer_of number_of place_of r' t' → (r ≡ r') × (t ≡ t')
-  same_result (Ok p) (Ok p') t t' e = let k = ap rounds e in let f = ap mask e in (cc, ap table e)
+  same_result (Ok p) (Ok p') t t' e = (ap₂ (λ k f. Ok (record { rounds = k; free = f })) (ap rounds e) (ap mask e), ap table e)
   same_result (Ok p) (Err s) t t' e = absurd (omega (arith, ap number e, never_zero s))
   same_result (Err r) (Ok p) t t' e = absurd (omega (arith, ap number e, never_zero r))
   same_result (Err r) (Err s) t t' e = (ap Err (told_apart r s (ap number e) (ap place e)), ap table e)
