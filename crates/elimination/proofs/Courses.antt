@@ -190,30 +190,6 @@ module _ {w m : ℕ} {es : List ℤ} {a i : ℕ} (P : Passed w m es a i) (h : i 
   pub passed_more : Passed w m es (a + w) (i + 1)
   passed_more = record { within = omega arith; left = omega (arith, row_less m i w h) }
 
--- ---- a search for the first equation with something in a column that is not used
-pub record Searched (u v w m : ℕ) (es : List ℤ) (a i : ℕ) : Type 0 where
-  pub passed : Passed w m es a i
-  pub is : first_used u v w m 0 es ≡ first_used u v w (m - i) i (drop a es)
-
-pub searched_none : (u v w m : ℕ) (es : List ℤ) → length es ≡ m * w → Searched u v w m es 0 0
-searched_none u v w m es e = record { passed = passed_none e; is = rw sub-zero }
-
-module _ {u v w m : ℕ} {es : List ℤ} {a i : ℕ} (S : Searched u v w m es a i) where
-  pub searched_end : m ≤ i → first_used u v w m 0 es ≡ nowhere
-  unfolding first_used
-  searched_end h = let z : m - i ≡ 0 = omega arith in rw z at S.is
-
-  module _ (h : i < m) where
-    next : first_used u v w m 0 es ≡ if (unused u v (take w (drop a es))) (first_used u v w (m - (i + 1)) (i + 1) (drop w (drop a es))) (place i)
-    unfolding first_used
-    next = let d : m - i ≡ suc (m - (i + 1)) = omega arith in rw d at S.is
-
-    pub searched_stop : unused u v (take w (drop a es)) ≡ false → first_used u v w m 0 es ≡ place i
-    searched_stop e = rw e at next
-
-    pub searched_more : unused u v (take w (drop a es)) ≡ true → Searched u v w m es (a + w) (i + 1)
-    searched_more e = record { passed = passed_more S.passed h; is = rw (← drop-drop w a es) (rw e at next) }
-
 -- ---- the equations in order: the table is t after k rounds, with the word f
 pub record Lining (u v w m : ℕ) (es t : List ℤ) (k f a i : ℕ) : Type 0 where
   pub passed : Passed w m es a i
