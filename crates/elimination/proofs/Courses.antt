@@ -39,7 +39,7 @@ use Rattle.elimination_rules.proofs.Fall.{again_remains, again_tabled}
 use Rattle.elimination_rules.specs.Kept.{start_kept}
 use Rattle.elimination_rules.proofs.Count.{one_kept}
 use Rattle.elimination.specs.Requires.{Countable, smallest_size}
-use Rattle.elimination.specs.Room.{SameRoom, Placed, Lined}
+use Rattle.elimination.specs.Room.{SameRoom, Ready, Placed, Lined}
 use Rattle.elimination.specs.Views.{turn_of, outcome_of, verdict_of}
 use Rattle.std.specs.Result.{IsErrAnd, MatchResult}
 use Rattle.elimination.specs.declared.progress.Progress.{Progress}
@@ -92,12 +92,13 @@ unfolding solve
 solve_goes o g h zero l = absurd (omega arith)
 solve_goes o g h (suc n) l = rw g.turn (h n (omega arith))
 
-module _ (u v : ℕ) (t e : List ℤ) (rows : length t ≡ v * length e) (limited : all_in_limit e ≡ true) (k f : ℕ) (c : Countable u k e) where
-  pub going : {t' e' : List ℤ} → round quotient u v t e f ≡ again t' e' → Going u v t e k f t' e'
+-- That holds of one with room for it.
+module _ {s : Elimination} (R : Ready s) (k f : ℕ) (c : Countable s.unknown_columns k s.equation.now) where
+  pub going : {t' e' : List ℤ} → round quotient s.unknown_columns s.unknowns s.table.now s.equation.now f ≡ again t' e' → Going s.unknown_columns s.unknowns s.table.now s.equation.now k f t' e'
   going {t'} {e'} r =
-      let m = again_remains rounded_down u v t e f r in
-      let h = again_tabled quotient u v (length e) t e f refl rows r in
-      record { turn = r; smaller = m.smaller; counts = omega arith; countable = omega arith; table = h.limited; equation = m.limited limited }
+      let m = again_remains rounded_down s.unknown_columns s.unknowns s.table.now s.equation.now f r in
+      let h = again_tabled quotient s.unknown_columns s.unknowns (length s.equation.now) s.table.now s.equation.now f refl s.rows r in
+      record { turn = r; smaller = m.smaller; counts = omega arith; countable = omega arith; table = h.limited; equation = m.limited R.equation }
 
   -- One that solves has picked an unknown, so that it can be counted.
   abbrev Counts : Turn → Type 0
@@ -107,11 +108,12 @@ module _ (u v : ℕ) (t e : List ℤ) (rows : length t ≡ v * length e) (limite
   Counts clash = Unit {0}
   Counts wide = Unit {0}
 
-  pub solved_counts : {t' : List ℤ} {f' : ℕ} → round quotient u v t e f ≡ solved t' f' → k + 1 < 2 ^ 32
+  pub solved_counts : {t' : List ℤ} {f' : ℕ} → round quotient s.unknown_columns s.unknowns s.table.now s.equation.now f ≡ solved t' f' → k + 1 < 2 ^ 32
   solved_counts r =
+      let e = s.equation.now in
       subst Counts r
-      (round_ind quotient u v (length e) t f Counts e (λ _ _. tt) (λ _ _. tt)
-      (λ j p. turn_ind quotient u v (length e) t f Counts (upright e j) j (length_upright e j)
+      (round_ind quotient s.unknown_columns s.unknowns (length e) s.table.now f Counts e (λ _ _. tt) (λ _ _. tt)
+      (λ j p. turn_ind quotient s.unknown_columns s.unknowns (length e) s.table.now f Counts (upright e j) j (length_upright e j)
       (record { solves = λ _ _ _. omega (arith, p.some, p.size); clashes = λ _ _. tt; goes_on = λ _ _. tt; widens = tt })))
 
 -- ---- one equation
