@@ -22,14 +22,13 @@ use Rattle.row.specs.Smaller.{Least}
 use Rattle.row.specs.Table.{replaced, start}
 use Rattle.row.specs.Tables.{all_at}
 use Rattle.std.specs.Prelude.{Result, Ok, Err}
-use Rattle.whole.specs.declared.number.PastLimit.{PastLimit}
 use Rattle.row.proofs.Judging.{judged_ok}
 use Rattle.row.proofs.RowLoops.{row_less}
 use Rattle.elimination_rules.specs.Round.{Turn, holds, solved, again, clash, wide, upright, round}
 use Rattle.elimination_rules.specs.Equation.{Outcome, done, clashed, widened, on_turn, solve, one, Verdict, accepted, clash_at, wide_at, on_outcome, each, eliminate}
 use Rattle.elimination_rules.specs.Answer.{Answer, refuses}
 use Rattle.whole.specs.Place.{Found, place, nowhere, on_found}
-use Rattle.elimination_rules.specs.Call.{unused, first_used, fuel, on_verdict, eliminated}
+use Rattle.elimination_rules.specs.Call.{first_used, fuel, on_verdict, eliminated}
 use Rattle.elimination_rules.specs.General.{Kept}
 use Rattle.elimination_rules.specs.Zeros.{sized, in_length}
 use Rattle.elimination_rules.specs.Upright.{least_unknown}

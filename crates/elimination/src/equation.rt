@@ -11,8 +11,8 @@ ghost use Rattle.elimination.specs.Room.{Ready, Placed, Lined, SameRoom};
 ghost use Rattle.elimination.specs.Views.{outcome_of, verdict_of};
 
 use crate::progress::{Progress, Stop, Stopped};
-use crate::round::Turned;
 use crate::room::Elimination;
+use crate::round::Turned;
 use whole::number::PastLimit;
 
 impl Elimination<'_> {
