@@ -1,5 +1,6 @@
 // An answer as its line has it.
-use elimination::call::Answer;
+use elimination::progress::Progress;
+use elimination::refusal::{Refusal, Refuses};
 use std::fmt;
 
 /// The numbers of an answer: an accepted one has rounds and a mask, and others have a place.
@@ -11,18 +12,18 @@ pub struct Heard {
     mask: u64,
 }
 
-impl From<Answer> for Heard {
-    fn from(answer: Answer) -> Heard {
+impl From<Result<Progress, Refusal>> for Heard {
+    fn from(answer: Result<Progress, Refusal>) -> Heard {
         match answer {
-            Answer::Accepted(rounds, mask) => Heard {
+            Ok(done) => Heard {
                 number: 0,
                 place: 0,
-                rounds,
-                mask,
+                rounds: done.rounds,
+                mask: done.free,
             },
-            Answer::Refused(number, place) => Heard {
-                number,
-                place,
+            Err(refusal) => Heard {
+                number: refusal.number(),
+                place: refusal.place(),
                 rounds: 0,
                 mask: 0,
             },
