@@ -3,6 +3,8 @@ ghost use Rattle.std.specs.Prelude.{◌≡◌, ℕ, ◌<◌};
 ghost use Rattle.elimination.specs.Refusals.{number_of, place_of, number_some, told_apart as refusals_apart, refusal_of};
 
 use crate::progress::{Stop, Stopped};
+use std::error::Error;
+use std::fmt;
 
 /// What every refusal has: document 01's number of it, which is never 0, and a place.
 pub trait Refuses {
@@ -77,3 +79,18 @@ impl From<Stopped> for Refusal {
         }
     }
 }
+
+impl fmt::Display for Refusal {
+    fn fmt<W: fmt::Write>(&self, f: &mut fmt::Formatter<W>) -> fmt::Result {
+        match self {
+            Refusal::TooManyUnknowns => write!(f, "more than 24 unknowns"),
+            Refusal::UnevenLength => write!(f, "the length is not a multiple of 32"),
+            Refusal::UnusedColumn(i) => write!(f, "equation {i} is nonzero in an unused column"),
+            Refusal::TableTooShort => write!(f, "the lent table is too short"),
+            Refusal::Wide(i) => write!(f, "equation {i} passes the limit"),
+            Refusal::Clash(i) => write!(f, "equation {i} clashes"),
+        }
+    }
+}
+
+impl Error for Refusal {}
