@@ -145,8 +145,8 @@ pub fn eliminate(v: usize, numbers: &[i32], table: &mut [i32]) -> Answer
     let count = numbers.len() / 32;
     let found = crate::columns::first_used(numbers, 32, 24, v, count);
     match found {
-        whole::place::Found::Place(i) => Answer::Refused(5, i),
-        whole::place::Found::Nowhere => {
+        Some(i) => Answer::Refused(5, i),
+        None => {
             if table.len() < 32 * v {
                 return Answer::Refused(8, 0);
             }

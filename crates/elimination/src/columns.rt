@@ -12,7 +12,7 @@ fn unused(r: &[i32], u: usize, v: usize) -> bool
 }
 
 // The lowest of the equations, of w numbers each, with something in a column that is not used.
-pub fn first_used(es: &[i32], w: usize, u: usize, v: usize, count: usize) -> whole::place::Found
+pub fn first_used(es: &[i32], w: usize, u: usize, v: usize, count: usize) -> Option<usize>
     requires { (length es.now ≡ count * w) × (v ≤ u) × (u ≤ w) }
     ensures { first_used u v w count 0 es.now ≡ found_of result }
 {
@@ -21,10 +21,10 @@ pub fn first_used(es: &[i32], w: usize, u: usize, v: usize, count: usize) -> who
     while i < count {
         let b = a + w;
         if !unused(&es[a..b], u, v) {
-            return whole::place::Found::Place(i);
+            return Some(i);
         }
         a = b;
         i += 1;
     }
-    whole::place::Found::Nowhere
+    None
 }

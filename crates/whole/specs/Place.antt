@@ -1,6 +1,5 @@
 -- The lowest place at which something is wrong.
-use Rattle.std.specs.Prelude.{Bool, ℕ, zero, suc, ◌+◌}
-use Rattle.whole.specs.declared.place.Found as D
+use Rattle.std.specs.Prelude.{Bool, ℕ, zero, suc, ◌+◌, Option, Some, None}
 use Rattle.whole.specs.Cases.{if}
 
 pub data Found : Type 0 where
@@ -17,6 +16,6 @@ lowest good zero i = nowhere
 lowest good (suc n) i = if (good i) (lowest good n (i + 1)) (place i)
 
 -- What code says that looks for one.
-abbrev pub found_of : D.Found → Found
-found_of (D.TheVariants.Place i) = place i
-found_of D.TheVariants.Nowhere = nowhere
+abbrev pub found_of : Option ℕ → Found
+found_of (Some i) = place i
+found_of None = nowhere

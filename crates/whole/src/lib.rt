@@ -3,5 +3,4 @@
 
 pub mod bytes;
 pub mod number;
-pub mod place;
 pub mod word;

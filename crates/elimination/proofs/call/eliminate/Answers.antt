@@ -11,13 +11,13 @@ returns-then-numbers-ne0 c = refuses_length _ _ _ c.if-v-gt24.false c.if-numbers
 
 pub returns-then-table-v : goal.returns-then-table-v
 returns-then-table-v c =
-    refuses_room _ _ _ c.if-v-gt24.false c.if-numbers-ne0.false (rw c.in-Nowhere.is at c.first_used-found.ensures) c.if-table-v.true
+    refuses_room _ _ _ c.if-v-gt24.false c.if-numbers-ne0.false (rw c.in-None.is at c.first_used-found.ensures) c.if-table-v.true
 
-pub returns-in-Place : goal.returns-in-Place
-returns-in-Place c =
-    refuses_column _ _ _ c.if-v-gt24.false c.if-numbers-ne0.false _ (rw c.in-Place.is at c.first_used-found.ensures)
+pub returns-in-Some : goal.returns-in-Some
+returns-in-Some c =
+    refuses_column _ _ _ c.if-v-gt24.false c.if-numbers-ne0.false _ (rw c.in-Some.is at c.first_used-found.ensures)
 
 pub returns-else-table-v : goal.returns-else-table-v
 returns-else-table-v c =
-    is_worked _ _ _ c.if-v-gt24.false c.if-numbers-ne0.false (rw c.in-Nowhere.is at c.first_used-found.ensures) c.if-table-v.false
+    is_worked _ _ _ c.if-v-gt24.false c.if-numbers-ne0.false (rw c.in-None.is at c.first_used-found.ensures) c.if-table-v.false
     ∙ c.owner.ensures
