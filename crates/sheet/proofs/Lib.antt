@@ -1,9 +1,2 @@
-pub mod Places
-pub mod Rules
-pub mod Stores
-pub mod Tests
 pub mod Exponents
 pub mod Lowest
-pub mod Courses
-pub mod Questions
-pub mod Calling

@@ -1,10 +1,7 @@
 // Calibration sheets: their bytes, their checks, their lines, and the calls on them.
 #![tactic(auto)]
 
-pub mod ask;
-pub mod call;
 pub mod check;
-pub mod line;
+pub mod parts;
+pub mod refusal;
 pub mod shape;
-pub mod step;
-pub mod work;
