@@ -8,16 +8,31 @@ use mathlib.Core.List.{List, [], ◌∷◌, ◌++◌, append-nil, map}
 use Prim.Native.Nat.{ℕ, zero, suc, ◌+◌, ◌≤◌, ◌<◌, ◌^◌}
 use native.Mathlib.Numerals.{add-one}
 use native.Mathlib.Omega.{arith}
-use lib.ListN.{length, get_or, take, drop, set, drop_of_length-le, length-set, length-append, length-drop}
+use lib.ListN.{length, get_or, take, drop, set, drop_of_length-le, length-set, length-append, length-drop, take-append-drop}
 use lib.Seq.{drop-cons, take_all, take-append_seam}
 use lib.IntN.{ℤ, pos}
 use lib.Signed.{mag}
 use mir.Syntax.{Width}
 use mir.Val.{to_z, of_z, hbits}
+use Rattle.std.specs.Prelude.{Result, Ok, Err, ◌&&◌}
+use Rattle.std.specs.List.{list_all}
+use Rattle.whole.specs.Cases.{both}
+use Rattle.std.specs.Result.{IsErr}
+use Rattle.whole.specs.declared.number.PastLimit.{PastLimit}
 use Rattle.whole.specs.Size.{in_limit}
 use Rattle.whole.proofs.Signed.{read}
 use Rattle.row.specs.Row.{at, all}
 use Rattle.row.specs.Judged.{judged, judged_of}
+
+-- What std's `all` over a slice says.
+pub all_list : {A : Type 0} (p : A → Bool) (s : List A) → list_all p s ≡ all p s
+unfolding all
+all_list p [] = refl
+all_list p (x ∷ s) = by (p x) (all_list p s)
+  where
+    by : (b : Bool) → list_all p s ≡ all p s → (b && list_all p s) ≡ both b (all p s)
+    by true e = e
+    by false e = refl
 
 module _ {A : Type 0} (p : A → Bool) (d : A) (s : List A) (i : ℕ) where
   pub scan_more : i < length s → p (get_or s i d) ≡ true → all p (drop i s) ≡ all p (drop (i + 1) s)
@@ -57,9 +72,18 @@ pub record Painted {A : Type 0} (p : A → Bool) (m r l : List A) (i : ℕ) : Ty
 abbrev pub always : {A : Type 0} → A → Bool
 always _ = true
 
+pub all_always : {A : Type 0} (s : List A) → all always s ≡ true
+unfolding all
+all_always [] = refl
+all_always (x ∷ s) = all_always s
+
 module _ {A : Type 0} (p : A → Bool) (d : A) (m r : List A) where
   pub painted_none : length m ≡ length r → Painted p m r r 0
   painted_none e = record { within = omega arith; long = e; same = refl; is = refl; judged = refl }
+
+  -- The loop may begin past a front that is as it is to be.
+  pub painted_past : (n : ℕ) → n ≤ length r → length m ≡ length r → take n m ≡ take n r → all p m ≡ all p (drop n m) → Painted p m r r n
+  painted_past n h e f t = record { within = h; long = e; same = refl; is = sym (rw f (take-append-drop n r)); judged = t }
 
   module _ (l : List A) (i : ℕ) (P : Painted p m r l i) where
     pub painted_read : i < length l → get_or l i d ≡ get_or r i d
@@ -101,10 +125,11 @@ painted_held w {p} {m} {r} {l} {i} P h k = read w (at l i) k ∙ painted_read p 
 
 -- A loop that judges each number of m, and paints it over r where it is within the limit.
 module _ {m r l : List ℤ} {i : ℕ} (P : Painted in_limit m r l i) where
-  pub judged_stop : i < length l → (x : ℤ) → x ≡ at m i → in_limit x ≡ false → judged m ≡ judged_of false l
-  judged_stop h x e t = rw (painted_stop in_limit (pos 0) m r l i P h x e t)
+  pub judged_stop : i < length l → (x : ℤ) → x ≡ at m i → in_limit x ≡ false → (r : Result (Unit {0}) PastLimit) → IsErr r → judged m ≡ judged_of r l
+  judged_stop h x e t (Err past) k = rw (painted_stop in_limit (pos 0) m r l i P h x e t)
+  judged_stop h x e t (Ok u) k = cc
 
-  pub judged_all : length l ≤ i → judged m ≡ judged_of true l
+  pub judged_all : length l ≤ i → judged m ≡ judged_of (Ok tt) l
   judged_all h = rw (painted_good in_limit (pos 0) m r l i P h, painted_all in_limit (pos 0) m r l i P h)
 
 -- An element of a map.

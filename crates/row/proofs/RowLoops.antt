@@ -16,6 +16,10 @@ use Rattle.row.specs.Tables.{all_append}
 pub row_less : (n j w : ℕ) → j < n → (n - j) * w ≡ w + (n - (j + 1)) * w
 row_less n j w h = let d : n - j ≡ suc (n - (j + 1)) = omega arith in rw d (omega (arith, suc-mul (n - (j + 1)) w))
 
+-- The row after row j begins where row j ends.
+pub next_row : (j w : ℕ) → (j + 1) * w ≡ j * w + w
+next_row j w = omega (arith, suc-mul j w)
+
 -- The row from a on is now l: what ends with it, and what follows.
 module _ (t l : List ℤ) (a w : ℕ) (room : a ≤ length t) (k : length l ≡ w) where
   long_front : length (take a t ++ l) ≡ a + w

@@ -6,19 +6,20 @@ use Prim.Native.Nat.{ℕ, ◌+◌, ◌-◌, ◌*◌, ◌≤◌, ◌<◌}
 use native.Mathlib.Nat.{zero-add, sub-zero}
 use native.Mathlib.Numerals.{add-one}
 use native.Mathlib.Omega.{arith}
-use borrow.Author.Tests.{leb-true, le-leb, ltb-true, ltb-false}
-use lib.Dec.{leb, ltb}
+use borrow.Author.Tests.{leb-true, le-leb}
+use lib.Dec.{leb}
 use lib.ListN.{length, take, drop, replicate, drop_of_length-le, length-drop}
-use lib.Seq.{drop-cons, drop-drop, length-take-le}
+use lib.Seq.{drop-cons, drop-drop, length-take-le, take_at}
 use lib.IntN.{ℤ, pos, nat_abs}
-use Rattle.whole.specs.Cases.{if, if_ind}
 use Rattle.whole.specs.Size.{limit, in_limit, Within, within_limit, within_add, within_mul, within_more}
 use Rattle.row.specs.Row.{at, all_in_limit, plus}
 use Rattle.row.specs.Values.{at_plus, length_plus, plus_zero}
 use Rattle.row.specs.Table.{add_rows, constants, replaced}
-use Rattle.row.specs.Tables.{all_at, all_of, all_both, all_take, all_drop, length_constants, constants_low, constants_high, zeros_in_limit}
+use Rattle.row.specs.Tables.{all_at, all_of, all_both, all_take, all_drop, length_constants, zeros_in_limit}
 use Rattle.row.specs.Requires.{all_within, Addable, Replaceable}
 use Rattle.row.proofs.RowLoops.{row_less}
+use Rattle.row.proofs.Loops.{Painted, always, painted_past, all_always}
+use Rattle.std.proofs.lemmas.List.{length-replicate, take-replicate}
 
 -- ---- sizes
 module _ (m : ℕ) (r : List ℤ) where
@@ -39,11 +40,13 @@ plus_within m f r s e h g k =
     rw (at_plus f r s i) (within_add (at_within m r h i n) (within_mul (within_limit f g) (at_within limit s k i o))))
 
 -- ---- the constants
-pub constants_at : (u : ℕ) (e : List ℤ) (i : ℕ) → at (constants u e) i ≡ if (ltb i u) (pos 0) (at e i)
-constants_at u e i =
-    if_ind (ltb i u) (pos 0) (at e i) (λ z. at (constants u e) i ≡ z)
-    (λ h. constants_low u e i (ltb-true i u h))
-    (λ h. constants_high u e i (ltb-false i u h))
+-- A loop that writes the columns of e from u on over a row of n zeros.
+pub constants_begin : (u n : ℕ) (e : List ℤ) → u ≤ length e → n ≡ length e → Painted always (constants u e) (replicate n (pos 0)) (replicate n (pos 0)) u
+constants_begin u n e h k =
+    let z : ℤ = pos 0 in
+    painted_past always z (constants u e) (replicate n z) u (omega (arith, length-replicate n z)) (length_constants u e h ∙ sym k ∙ sym (length-replicate n z))
+    (take_at (replicate u z) (drop u e) u (length-replicate u z) ∙ sym (take-replicate u n z (omega arith)))
+    (all_always (constants u e) ∙ sym (all_always (drop u (constants u e))))
 
 constants_in_limit : (u : ℕ) (e : List ℤ) → all_in_limit e ≡ true → all_in_limit (constants u e) ≡ true
 constants_in_limit u e h = all_both in_limit (replicate u (pos 0)) (drop u e) (zeros_in_limit u) (all_drop in_limit u e h)

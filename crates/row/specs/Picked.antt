@@ -1,7 +1,8 @@
 -- What the code's answer says of the smallest column.
-use Rattle.row.specs.declared.smallest.Picked as D
+use Rattle.std.specs.Prelude.{Option, Some, None}
+use Rattle.row.specs.declared.smallest.Picked.{Picked}
 use Rattle.row.specs.Smallest.{Pick, nothing, column}
 
-abbrev pub pick_of : D.Picked → Pick
-pick_of D.TheVariants.Nothing = nothing
-pick_of (D.TheVariants.Column j a) = column j a
+abbrev pub pick_of : Option Picked → Pick
+pick_of None = nothing
+pick_of (Some p) = column p.column p.size

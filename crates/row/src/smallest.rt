@@ -3,41 +3,34 @@ ghost use Rattle.std.specs.Prelude.{◌≡◌, nat_abs};
 ghost use Rattle.row.specs.Smallest.{better as better_pick, smallest as smallest_pick};
 ghost use Rattle.row.specs.Picked.{pick_of};
 
-// A column with the size that stands in it.
-#[derive(Clone, Copy)]
-pub enum Picked {
-    Column(usize, u32),
-    Nothing,
+/// A column with the size that stands in it.
+#[derive(Clone, Copy, Debug, PartialEq, Eq)]
+pub struct Picked {
+    pub column: usize,
+    pub size: u32,
 }
 
-// Column i, which holds x, against the best of those before it.
-pub fn better(best: Picked, i: usize, x: i32) -> Picked
+/// Column i, which holds x, against the best of those before it.
+pub fn better(best: Option<Picked>, i: usize, x: i32) -> Option<Picked>
     ensures { pick_of result ≡ better_pick i (nat_abs x) (pick_of best) }
 {
-    let a = whole::number::size(x);
+    let a = x.unsigned_abs();
     if a == 0 {
         return best;
     }
     match best {
-        Picked::Nothing => Picked::Column(i, a),
-        Picked::Column(_, b) => {
-            if a < b {
-                return Picked::Column(i, a);
-            }
-            best
-        }
+        Some(b) if b.size <= a => best,
+        _ => Some(Picked { column: i, size: a }),
     }
 }
 
-// The lowest column of the smallest size that is not 0.
-pub fn smallest(r: &[i32]) -> Picked
+/// The lowest column of the smallest size that is not 0.
+pub fn smallest(r: &[i32]) -> Option<Picked>
     ensures { pick_of result ≡ smallest_pick r.now }
 {
-    let mut best = Picked::Nothing;
-    let mut i = 0;
-    while i < r.len() {
-        best = better(best, i, r[i]);
-        i += 1;
+    let mut best = None;
+    for (i, &x) in r.iter().enumerate() {
+        best = better(best, i, x);
     }
     best
 }

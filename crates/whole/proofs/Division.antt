@@ -1,10 +1,9 @@
 -- The laws of division by a number above zero.
-use Rattle.std.specs.Prelude.{◌≡◌, refl, [], ◌∷◌, ℕ, zero, suc, ◌*◌, ◌/◌, ◌≤◌, ◌<◌, ℤ, pos, negsuc, ◌+ℤ◌, ◌-ℤ◌, ◌*ℤ◌, nat_abs, ◌≤ℤ◌, ◌<ℤ◌}
-use Rattle.std.proofs.Common.{sym, ◌∙◌, ap, div-add-mod', mod-lt, div-le_self, arith, SFits}
+use Rattle.std.specs.Prelude.{◌≡◌, [], ◌∷◌, ◌/◌, ◌≤◌, ◌<◌, ℤ, pos, negsuc, ◌+ℤ◌, ◌-ℤ◌, ◌*ℤ◌, nat_abs, ◌≤ℤ◌, ◌<ℤ◌}
+use Rattle.std.proofs.Common.{div-add-mod', mod-lt, div-le_self, arith, SFits}
 use Rattle.std.specs.Int.Signed.{quot_z, rem_z, mag}
 use Rattle.std.specs.Int.{Width}
 use Rattle.whole.specs.Difference.{differences, as_difference}
-use Rattle.whole.specs.Ring.{size_mul, size_neg, size_zero, equal_by_difference}
 use Rattle.whole.specs.Identity.{identity, terms}
 use Rattle.whole.specs.Division.{quotient, remainder, Divided, Division, above, same_quotient, same_remainder, toward_zero, size_rem}
 

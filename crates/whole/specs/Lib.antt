@@ -8,3 +8,4 @@ pub mod Division
 pub mod Word
 pub mod Bytes
 pub mod Place
+pub mod Judge

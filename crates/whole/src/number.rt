@@ -1,12 +1,32 @@
 // Signed numbers of 32 bits, and sums of them in 64.
-ghost use Rattle.std.specs.Prelude.{◌≡◌, true, ℕ, ℤ, pos, nat_abs, neg_ℤ, ◌+ℤ◌, ◌-ℤ◌, ◌*ℤ◌, ◌<ℤ◌};
+ghost use Rattle.std.specs.Prelude.{◌≡◌, true, ℤ, pos, ◌+ℤ◌, ◌-ℤ◌, ◌*ℤ◌, ◌<ℤ◌};
 ghost use Rattle.whole.specs.Size.{in_limit, Within};
+ghost use Rattle.whole.specs.Judge.{judge};
 ghost use Rattle.whole.specs.Division.{quotient, remainder};
 
-pub fn widen(x: i32) -> i64
-    ensures { result ≡ x }
+use std::error::Error;
+use std::fmt;
+
+/// The largest size that an exponent may have.
+pub const LIMIT: u64 = 100_000_000;
+
+/// An exponent passed the limit.
+#[derive(Clone, Copy, Debug, PartialEq, Eq)]
+pub struct PastLimit;
+
+impl fmt::Display for PastLimit {
+    fn fmt<W: fmt::Write>(&self, f: &mut fmt::Formatter<W>) -> fmt::Result {
+        write!(f, "an exponent is past the limit of {LIMIT}")
+    }
+}
+
+impl Error for PastLimit {}
+
+/// The limit itself is allowed.
+pub fn in_limit(x: i64) -> bool
+    ensures { result ≡ in_limit x }
 {
-    x as i64
+    x.unsigned_abs() <= LIMIT
 }
 
 pub fn narrow(x: i64) -> i32
@@ -16,56 +36,38 @@ pub fn narrow(x: i64) -> i32
     x as i32
 }
 
-// The limit itself is allowed.
-pub fn in_limit(x: i64) -> bool
-    ensures { result ≡ in_limit x }
+/// The exponent that a sum comes to, where it is within the limit.
+pub fn judge(x: i64) -> Result<i32, PastLimit>
+    ensures { result ≡ judge x }
 {
-    if x < -100000000 {
-        return false;
+    if !in_limit(x) {
+        return Err(PastLimit);
     }
-    x <= 100000000
+    Ok(narrow(x))
 }
 
-// The size of x, which for -2^31 only an unsigned number holds.
-pub fn size(x: i32) -> u32
-    ensures { result ≡ nat_abs x }
-{
-    let y = x as i64;
-    if y < 0 {
-        return (0 - y) as u32;
-    }
-    y as u32
-}
-
-pub fn minus(x: i32) -> i32
-    requires { in_limit x ≡ true }
-    ensures { result ≡ neg_ℤ x }
-{
-    0 - x
-}
-
-// x less f times y: always fits 64 bits.
+/// x less f times y: always fits 64 bits.
 pub fn less_times(x: i32, f: i32, y: i32) -> i64
     ensures { result ≡ x -ℤ f *ℤ y }
 {
-    x as i64 - f as i64 * (y as i64)
+    i64::from(x) - i64::from(f) * i64::from(y)
 }
 
-// x and f times y: fits where x leaves room for one more product.
+/// x and f times y: fits where x leaves room for one more product.
 pub fn plus_times(x: i64, f: i32, y: i32) -> i64
     requires { Within 4000000000000000000 x }
     ensures { result ≡ x +ℤ f *ℤ y }
 {
-    x + f as i64 * (y as i64)
+    x + i64::from(f) * i64::from(y)
 }
 
-#[derive(Clone, Copy)]
+#[derive(Clone, Copy, Debug, PartialEq, Eq)]
 pub struct Divided {
     pub q: i32,
     pub r: i32,
 }
 
-// The machine divides toward zero: where that leaves a remainder below zero, one less and a divisor more.
+/// The machine divides toward zero: where that leaves a remainder below zero, one less and a divisor more.
 pub fn divide(x: i32, p: i32) -> Divided
     requires { pos 0 <ℤ p }
     ensures { (result.q ≡ quotient x p) × (result.r ≡ remainder x p) }
@@ -75,5 +77,5 @@ pub fn divide(x: i32, p: i32) -> Divided
     if r < 0 {
         return Divided { q: q - 1, r: r + p };
     }
-    Divided { q: q, r: r }
+    Divided { q, r }
 }

@@ -1,5 +1,5 @@
 -- `row::add::add_row` meets its contract. The loop's invariant: the first i sums are those of the result, the others as they were lent.
-use Rattle.std.proofs.Common.{◌≡◌, refl, ◌∙◌, ℕ, arith, pos, w32, w64, to_z, of_z}
+use Rattle.std.proofs.Common.{refl, ◌∙◌, arith, pos, w32, w64}
 use Rattle.whole.proofs.Signed.{read}
 use Rattle.row.specs.Row.{at}
 use Rattle.row.specs.Values.{at_plus, length_plus}

@@ -1,25 +1,26 @@
 -- `row::add::settle` meets its contract. The loop's invariant: the first i numbers are the sums', and each is within the limit.
-use Rattle.std.proofs.Common.{refl, sym, ap, ◌∙◌, arith, pos, w32, w64}
+use Rattle.std.proofs.Common.{refl, sym, ap, ◌∙◌, arith, pos, w64, to_z, of_z}
 use Rattle.whole.specs.Size.{in_limit}
-use Rattle.whole.proofs.Signed.{read}
+use Rattle.whole.specs.Judge.{judge_err}
+use Rattle.whole.proofs.Signed.{read, judged_number}
 use Rattle.row.specs.Row.{at}
 use Rattle.row.proofs.Loops.{painted_more, judged_stop, judged_all}
 use Rattle.row.proofs.add.settle.Goals as goal
 
-pub returns-then-not-in_limit : goal.returns-then-not-in_limit
-returns-then-not-in_limit c =
+pub returns-in_err-out : goal.returns-in_err-out
+returns-in_err-out c =
     let l = c.loop-i in
     let x = at c.args.sums.now l.i in
     let e = ap in_limit (read w64 x (omega arith)) in
-    judged_stop l.invariant (omega arith) x refl (sym (c.in_limit.ensures ∙ e) ∙ c.if-not-in_limit.true)
+    judged_stop l.invariant (omega arith) x refl (sym e ∙ judge_err (to_z w64 (of_z w64 x)) _ c.judge.ensures c.in_err-out.was) _ c.from_residual.ensures.0
 
 pub loop-i-preserved : goal.loop-i-preserved
 loop-i-preserved c =
     let l = c.loop-i in
     let h = read w64 (at c.args.sums.now l.i) (omega arith) in
-    let e = read w32 c.narrow.result c.narrow.type_inv ∙ c.narrow.ensures ∙ h in
-    painted_more in_limit (pos 0) _ _ l.out l.i l.invariant (omega arith) _ e
-    (ap in_limit e ∙ sym (c.in_limit.ensures ∙ ap in_limit h) ∙ c.if-not-in_limit.false)
+    let k = judged_number c.judge.ensures c.in_ok-out.was in
+    let e = k.0 ∙ h in
+    painted_more in_limit (pos 0) _ _ l.out l.i l.invariant (omega arith) _ e (ap in_limit k.0 ∙ k.1)
 
 pub returns : goal.returns
 returns c = let l = c.loop-i in judged_all l.invariant (omega arith)

@@ -1,10 +1,6 @@
-use Rattle.std.proofs.Common.{◌-◌, length}
 use Rattle.whole.specs.Size.{in_limit}
 use Rattle.row.proofs.Loops.{Painted}
 use Rattle.row.proofs.add.settle.Given as goal
 
 abbrev pub invariant-loop-i : goal.invariant-loop-i
 invariant-loop-i l = Painted in_limit l.sums l.initial.out l.out l.i
-
-abbrev pub decreases-loop-i : goal.decreases-loop-i
-decreases-loop-i l = length l.initial.out - l.i

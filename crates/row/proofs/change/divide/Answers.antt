@@ -10,7 +10,7 @@ pub loop-i-preserved : goal.loop-i-preserved
 loop-i-preserved c =
     let a = c.args in
     let l = c.loop-i in
-    let d = c.divide-d in
+    let d = c.divide-divided in
     let p : ℤ = to_z w32 (of_z w32 a.p) in
     let e = painted_held w32 l.invariant.2 (omega arith) (omega arith) in (
       l.invariant.0,
