@@ -1,2 +1,5 @@
 pub mod Views
 pub mod Refusals
+pub mod Operations
+pub mod Sources
+pub mod Store

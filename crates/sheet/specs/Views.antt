@@ -1,7 +1,7 @@
 -- What the code's values say, in the words of the rules.
 use Rattle.sheet_rules.specs.Shape as R
 use Rattle.sheet.specs.declared.shape.Shape as S
-use Rattle.sheet.specs.declared.shape.Line as L
+use Rattle.sheet.specs.declared.line.Line as L
 
 abbrev pub shape_view : S.Shape → R.Shape
 shape_view sh =

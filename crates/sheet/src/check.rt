@@ -1,18 +1,21 @@
 // Checks 1 to 7.
-ghost use Rattle.std.specs.Prelude.{◌≡◌, true, map, ◌≤◌, ◌<◌, length, IfOk};
+ghost use Rattle.std.specs.Prelude.{◌≡◌, true, map, ◌≤◌, ◌<◌, length, IfOk, Some};
 ghost use Rattle.whole.specs.Bytes.{signed};
 ghost use Rattle.whole.specs.Place.{found_of};
 ghost use Rattle.row.specs.Row.{all_zero};
 ghost use Rattle.row.specs.Requires.{all_within};
 ghost use Rattle.sheet_rules.specs.Shape.{shape_of, unit_record};
-ghost use Rattle.sheet_rules.specs.Good.{good_record, good_line, code_of, good_operands};
+ghost use Rattle.sheet_rules.specs.Good.{good_record, good_line, good_operands};
 ghost use Rattle.sheet_rules.specs.Checks.{good_mark, good_counts, good_distances, first_record, first_channel, first_line, checked_sheet};
 ghost use Rattle.sheet.specs.Views.{shape_view, line_view};
+ghost use Rattle.sheet.specs.Operations.{code_for};
 ghost use Rattle.sheet.specs.Refusals.{checked_of};
 
 use crate::parts::{Parts, Sheet};
 use crate::refusal::Refusal;
-use crate::shape::{Line, Shape};
+use crate::line::Line;
+use crate::operation::Operation;
+use crate::shape::Shape;
 
 // "last four bytes wrong" is not.
 fn good_mark(s: &[u8]) -> bool
@@ -55,7 +58,7 @@ fn in_range(bytes: &[u8]) -> bool
 {
     bytes
         .iter()
-        .all(|&b| whole::number::size(whole::bytes::exponent(b)) <= 64)
+        .all(|&b| whole::bytes::exponent(b).unsigned_abs() <= 64)
 }
 
 fn all_zero(bytes: &[u8]) -> bool
@@ -85,24 +88,31 @@ fn first_channel(parts: &Parts) -> Option<usize>
     (0..parts.shape.channels).find(|&c| parts.shape.records <= parts.channel(c))
 }
 
-// The operands of line k, by its code.
-fn good_operands(shape: Shape, k: usize, code: u8, a: usize, b: usize) -> bool
-    ensures { result ≡ good_operands (shape_view shape) k (code_of code) a b }
+// "a, b" of line k, by its operation.
+fn good_operands(shape: Shape, k: usize, operation: Operation, a: usize, b: usize) -> bool
+    ensures { result ≡ good_operands (shape_view shape) k (code_for (Some operation)) a b }
 {
-    match code {
-        0 => true,
-        1 => a < shape.channels && b == 0,
-        2 | 3 | 4 | 5 | 7 => a < k && b < k,
-        6 => a < k && b < shape.unknowns,
-        8 => a < k && b < shape.records,
-        _ => false,
+    match operation {
+        Operation::Number => true,
+        Operation::Reading => a < shape.channels && b == 0,
+        Operation::Root => a < k && b < shape.unknowns,
+        Operation::Stated => a < k && b < shape.records,
+        Operation::Add
+        | Operation::Subtract
+        | Operation::Multiply
+        | Operation::Divide
+        | Operation::LessThan => a < k && b < k,
     }
 }
 
-fn good_line(shape: Shape, k: usize, l: Line) -> bool
-    ensures { result ≡ good_line (shape_view shape) k (line_view l) }
+fn good_line(shape: Shape, k: usize, line: Line) -> bool
+    ensures { result ≡ good_line (shape_view shape) k (line_view line) }
 {
-    l.last == 0 && good_operands(shape, k, l.code, usize::from(l.a), usize::from(l.b))
+    let Some(operation) = Operation::of(line.code) else {
+        return false;
+    };
+    line.last == 0
+        && good_operands(shape, k, operation, usize::from(line.a), usize::from(line.b))
 }
 
 fn first_line(parts: &Parts) -> Option<usize>

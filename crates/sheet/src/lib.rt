@@ -2,6 +2,8 @@
 #![tactic(auto)]
 
 pub mod check;
+pub mod line;
+pub mod operation;
 pub mod parts;
 pub mod refusal;
 pub mod shape;

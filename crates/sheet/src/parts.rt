@@ -5,7 +5,8 @@ ghost use Rattle.sheet_rules.specs.Shape.{unit_record, channel, line};
 ghost use Rattle.sheet_rules.specs.Formed.{Laid, Formed};
 ghost use Rattle.sheet.specs.Views.{shape_view, line_view};
 
-use crate::shape::{Line, Shape};
+use crate::line::Line;
+use crate::shape::Shape;
 
 /// Bytes that are as long as the parts of their shape.
 #[derive(Clone, Copy)]

@@ -1,7 +1,7 @@
-// How many parts a sheet has, and its lines.
-ghost use Rattle.std.specs.Prelude.{◌≡◌, ◌+◌, ◌≤◌, ◌<◌, length};
-ghost use Rattle.sheet_rules.specs.Shape.{shape_of, lines_at as rule_lines_at, channels_at as rule_channels_at, line_at};
-ghost use Rattle.sheet.specs.Views.{shape_view, line_view};
+// How many parts a sheet has, and where they begin.
+ghost use Rattle.std.specs.Prelude.{◌≡◌, ◌≤◌, ◌<◌, length};
+ghost use Rattle.sheet_rules.specs.Shape.{shape_of, lines_at as rule_lines_at, channels_at as rule_channels_at};
+ghost use Rattle.sheet.specs.Views.{shape_view};
 
 /// How many there are of each, and of how many columns the rows are.
 #[derive(Clone, Copy)]
@@ -45,29 +45,5 @@ impl Shape {
         ensures { result ≡ rule_lines_at (shape_view self) }
     {
         self.channels_at() + self.channels
-    }
-}
-
-/// "Lines, N of 4 bytes: code, a, b, and a last byte that is 0."
-#[derive(Clone, Copy)]
-pub struct Line {
-    pub code: u8,
-    pub a: u8,
-    pub b: u8,
-    pub last: u8,
-}
-
-impl Line {
-    /// The line at a place.
-    pub fn read(s: &[u8], at: usize) -> Line
-        requires { at + 3 < length s.now }
-        ensures { line_view result ≡ line_at s.now at }
-    {
-        Line {
-            code: s[at],
-            a: s[at + 1],
-            b: s[at + 2],
-            last: s[at + 3],
-        }
     }
 }
