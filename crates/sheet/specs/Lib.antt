@@ -1,5 +1,6 @@
 pub mod Views
 pub mod Refusals
 pub mod Operations
+pub mod Sheets
 pub mod Sources
 pub mod Store

@@ -7,3 +7,4 @@ pub mod operation;
 pub mod parts;
 pub mod refusal;
 pub mod shape;
+pub mod units;

@@ -1,0 +1,41 @@
+-- Laws of the store of line units.
+use mathlib.Core.Path.{◌≡◌, ◌∙◌}
+use mathlib.Core.List.{List, ◌++◌, append-nil}
+use Prim.Native.Nat.{ℕ, ◌+◌, ◌*◌, ◌≤◌, ◌<◌}
+use native.Mathlib.Omega.{arith}
+use lib.IntN.{ℤ}
+use lib.ListN.{length, take, drop, drop_of_length-le, length-append, length-drop}
+use lib.Seq.{length-take-le}
+use Rattle.whole.specs.Cases.{by_less}
+use Rattle.sheet_rules.specs.Shape.{Shape}
+use Rattle.sheet_rules.specs.Lines.{unit_at}
+use Rattle.sheet_rules.specs.Parts.{row_room, put_here, put_after}
+use Rattle.sheet.specs.Store.{Stored}
+
+-- A copy over a row of the same length leaves nothing of it.
+pub copied : (l r : List ℤ) → length r ≡ length l → l ++ drop (length l) r ≡ l
+copied l r e = let h : length r ≤ length l = omega arith in rw (drop_of_length-le r h, append-nil)
+
+module _ {sh : Shape} {s : List ℕ} {k : ℕ} {t : List ℤ} (S : Stored sh s k t) where
+  pub stored_room : (i : ℕ) → i < sh.lines → sh.columns * i + sh.columns ≤ length t
+  stored_room i h = omega (arith, S.room, row_room sh.columns sh.lines i h)
+
+  -- l is put in as the unit of line k; n is the row's length as the code computes it.
+  pub stored_more : (n : ℕ) (l : List ℤ) → k < sh.lines → n ≡ sh.columns → length l ≡ sh.columns → l ≡ unit_at sh s k
+      → Stored sh s (k + 1) (take (sh.columns * k) t ++ (l ++ drop n (drop (sh.columns * k) t)))
+  stored_more n l h e long is =
+      let w = sh.columns in
+      let a = w * k in
+      let r = drop n (drop a t) in
+      let room : a ≤ length t = omega (arith, stored_room k h) in
+      record {
+        room =
+            omega
+            (arith, S.room, stored_room k h, length-append (take a t) (l ++ r), length-append l r, length-take-le a t room, length-drop n (drop a t), length-drop a t);
+        so_far = omega arith;
+        holds =
+            λ i g.
+            by_less i k
+            (λ m. put_after t l r a room w (w * i) (row_room w k i m) ∙ S.holds i m)
+            (λ m. let i_is : i ≡ k = omega arith in rw i_is (put_here t l r a room w long ∙ is));
+      }
