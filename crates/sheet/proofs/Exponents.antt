@@ -9,7 +9,7 @@ use lib.Dec.{eqb, eqb-suc-zero}
 use lib.ListN.{take, drop, get_or}
 use Rattle.std.specs.List.{list_all}
 use Rattle.whole.specs.Bytes.{signed, signed_low, signed_high}
-use Rattle.whole.specs.Cases.{both, by_less, by_test}
+use Rattle.whole.specs.Cases.{by_less, by_test}
 use Rattle.row.specs.Row.{all, is_zero}
 
 module _ {A B : Type 0} (f : A → B) where

@@ -1,3 +1,4 @@
 pub mod Exponents
 pub mod Lowest
 pub mod Stores
+pub mod Sources

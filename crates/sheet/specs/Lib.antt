@@ -4,3 +4,4 @@ pub mod Operations
 pub mod Sheets
 pub mod Sources
 pub mod Store
+pub mod Steps

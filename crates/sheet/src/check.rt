@@ -11,10 +11,10 @@ ghost use Rattle.sheet.specs.Views.{shape_view, line_view};
 ghost use Rattle.sheet.specs.Operations.{code_for};
 ghost use Rattle.sheet.specs.Refusals.{checked_of};
 
-use crate::parts::{Parts, Sheet};
-use crate::refusal::Refusal;
 use crate::line::Line;
 use crate::operation::Operation;
+use crate::parts::{Parts, Sheet};
+use crate::refusal::Refusal;
 use crate::shape::Shape;
 
 // "last four bytes wrong" is not.
@@ -112,7 +112,13 @@ fn good_line(shape: Shape, k: usize, line: Line) -> bool
         return false;
     };
     line.last == 0
-        && good_operands(shape, k, operation, usize::from(line.a), usize::from(line.b))
+        && good_operands(
+            shape,
+            k,
+            operation,
+            usize::from(line.a),
+            usize::from(line.b),
+        )
 }
 
 fn first_line(parts: &Parts) -> Option<usize>

@@ -75,7 +75,8 @@ impl Line {
             }
             Operation::Root => Some(Sum::Less(a, 2, Source::Unknown(b))),
             Operation::Stated => Some(Sum::Less(a, 1, Source::Record(b))),
-            Operation::Number | Operation::Reading | Operation::Multiply | Operation::Divide => None,
+            Operation::Number | Operation::Reading | Operation::Multiply | Operation::Divide =>
+                None,
         }
     }
 }

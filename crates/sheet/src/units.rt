@@ -1,9 +1,10 @@
 // The units of a sheet's lines, as rows.
-ghost use Rattle.std.specs.Prelude.{◌≡◌, ◌+◌, ◌<◌, length, OnOk};
+ghost use Rattle.std.specs.Prelude.{◌≡◌, map, ◌+◌, ◌<◌, length, OnOk};
 ghost use Rattle.row.specs.Judged.{judged, judged_of};
-ghost use Rattle.sheet_rules.specs.Lines.{units, unit_at};
+ghost use Rattle.sheet_rules.specs.Lines.{units, unit_at, equations_at};
 ghost use Rattle.sheet.specs.Sheets.{shape_in, bytes_in};
 ghost use Rattle.sheet.specs.Sources.{source_row, sum_row};
+ghost use Rattle.sheet.specs.Steps.{stated_of};
 ghost use Rattle.sheet.specs.Store.{Stored, Sourced, Summed};
 
 use crate::line::{Source, Sum};
@@ -64,7 +65,11 @@ impl Units<'_> {
         match sum {
             Sum::Alone(first) => {
                 self.load(first, out);
-                if row::test::all_in_limit(out) { Ok(()) } else { Err(PastLimit) }
+                if row::test::all_in_limit(out) {
+                    Ok(())
+                } else {
+                    Err(PastLimit)
+                }
             }
             Sum::Less(first, times, second) => {
                 self.load(first, out);
@@ -72,5 +77,31 @@ impl Units<'_> {
                 row::change::less(out, other, times)
             }
         }
+    }
+
+    /// The unit of the next line, worked out and stored.
+    pub fn next(&mut self, unit: &mut [i32], other: &mut [i32]) -> Result<(), PastLimit>
+        requires { (self.old.done < self.old.sheet.parts.shape.lines) × (length unit.old ≡ self.old.sheet.parts.shape.columns) × (length other.old ≡ self.old.sheet.parts.shape.columns) }
+        ensures judged { judged (unit_at (shape_in self.old.sheet) (bytes_in self.old.sheet) self.old.done) ≡ judged_of result unit.new }
+        ensures done { OnOk result (self.new.done ≡ self.old.done + 1) }
+        ensures sheet { self.new.sheet ≡ self.old.sheet }
+    {
+        let parts = self.sheet.parts;
+        let line = parts.line(self.done);
+        self.work_out(line.unit(), unit, other)?;
+        self.give(unit);
+        Ok(())
+    }
+
+    /// The equation of line k, if it has one.
+    pub fn equation(&self, k: usize, e: &mut [i32], other: &mut [i32]) -> Result<bool, PastLimit>
+        requires { (k < self.now.done) × (length e.old ≡ self.now.sheet.parts.shape.columns) × (length other.old ≡ self.now.sheet.parts.shape.columns) }
+        ensures { map judged (equations_at (shape_in self.now.sheet) (bytes_in self.now.sheet) k) ≡ stated_of result e.new }
+    {
+        let Some(sum) = self.sheet.parts.line(k).equation() else {
+            return Ok(false);
+        };
+        self.work_out(sum, e, other)?;
+        Ok(true)
     }
 }
