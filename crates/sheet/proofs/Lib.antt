@@ -2,3 +2,4 @@ pub mod Exponents
 pub mod Lowest
 pub mod Stores
 pub mod Sources
+pub mod Courses

@@ -5,3 +5,4 @@ pub mod Sheets
 pub mod Sources
 pub mod Store
 pub mod Steps
+pub mod Working

@@ -8,3 +8,4 @@ pub mod parts;
 pub mod refusal;
 pub mod shape;
 pub mod units;
+pub mod work;

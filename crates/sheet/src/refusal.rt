@@ -1,6 +1,9 @@
 // What a caller hears of a refusal.
 ghost use Rattle.std.specs.Prelude.{◌≡◌};
-ghost use Rattle.sheet.specs.Refusals.{number_of, place_of};
+ghost use Rattle.sheet.specs.Refusals.{number_of, place_of, number_some, told_apart as refusals_apart, stopped_as};
+
+use elimination::progress::{Stop, Stopped};
+use elimination::refusal::Refuses;
 
 /// Why a call on a sheet is refused, in the order of the checks.
 #[derive(Clone, Copy, Debug, PartialEq, Eq)]
@@ -29,11 +32,12 @@ pub enum Refusal {
     Clash(usize),
 }
 
-impl Refusal {
-    /// The number that the caller hears.
-    pub fn number(self) -> u32
-        ensures { result ≡ number_of self }
-    {
+impl Refuses for Refusal {
+    ghost number = { number_of };
+
+    ghost place = { place_of };
+
+    fn number(self) -> u32 {
         match self {
             Refusal::Length => 1,
             Refusal::Mark => 2,
@@ -49,15 +53,32 @@ impl Refusal {
         }
     }
 
-    /// The place that the caller hears: 0 where there is none.
-    pub fn place(self) -> usize
-        ensures { result ≡ place_of self }
-    {
+    fn place(self) -> usize {
         match self {
             Refusal::Record(i) => i,
             Refusal::Channel(c) => c,
             Refusal::Line(k) | Refusal::Wide(k) | Refusal::Clash(k) => k,
-            _ => 0,
+            Refusal::Length
+            | Refusal::Mark
+            | Refusal::Counts
+            | Refusal::Distances
+            | Refusal::Absent
+            | Refusal::Room => 0,
+        }
+    }
+
+    ghost never_zero = { number_some };
+
+    ghost told_apart = { refusals_apart };
+}
+
+impl From<Stopped> for Refusal {
+    ghost from_gives = { λ stopped refusal. refusal ≡ stopped_as stopped };
+
+    fn from(stopped: Stopped) -> Refusal {
+        match stopped.why {
+            Stop::Clash => Refusal::Clash(stopped.at),
+            Stop::Wide => Refusal::Wide(stopped.at),
         }
     }
 }
