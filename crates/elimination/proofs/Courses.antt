@@ -1,5 +1,5 @@
 -- The course of an equation and of equations in order: what they come to, by how each step went.
-use mathlib.Core.Path.{◌≡◌, refl, ap, ◌∙◌, subst}
+use mathlib.Core.Path.{◌≡◌, refl, sym, ap, ◌∙◌, subst}
 use mathlib.Core.Bool.{true, false}
 use mathlib.Core.List.{List}
 use Prim.Native.Nat.{ℕ, zero, suc, ◌+◌, ◌-◌, ◌*◌, ◌/◌, ◌%◌, ◌≤◌, ◌<◌, ◌^◌}
@@ -19,12 +19,14 @@ use Rattle.row.specs.Row.{at, all_in_limit}
 use Rattle.row.specs.Judged.{good, wide as past, judged}
 use Rattle.row.specs.Smallest.{Pick, nothing, column, smallest, size_of}
 use Rattle.row.specs.Smaller.{Least}
-use Rattle.row.specs.Table.{replaced}
+use Rattle.row.specs.Table.{replaced, start}
 use Rattle.row.specs.Tables.{all_at}
-use Rattle.row.proofs.Judging.{judged_true}
+use Rattle.std.specs.Prelude.{Result, Ok, Err}
+use Rattle.whole.specs.declared.number.PastLimit.{PastLimit}
+use Rattle.row.proofs.Judging.{judged_ok}
 use Rattle.row.proofs.RowLoops.{row_less}
 use Rattle.elimination_rules.specs.Round.{Turn, holds, solved, again, clash, wide, upright, round}
-use Rattle.elimination_rules.specs.Equation.{Outcome, done, widened, on_turn, solve, one, Verdict, accepted, on_outcome, each, eliminate}
+use Rattle.elimination_rules.specs.Equation.{Outcome, done, clashed, widened, on_turn, solve, one, Verdict, accepted, clash_at, wide_at, on_outcome, each, eliminate}
 use Rattle.elimination_rules.specs.Answer.{Answer, refuses}
 use Rattle.whole.specs.Place.{Found, place, nowhere, on_found}
 use Rattle.elimination_rules.specs.Call.{unused, first_used, fuel, on_verdict, eliminated}
@@ -36,9 +38,17 @@ use Rattle.elimination_rules.proofs.Ways.{turn_ind, round_ind}
 use Rattle.elimination_rules.proofs.Fall.{again_remains, again_tabled}
 use Rattle.elimination_rules.specs.Kept.{start_kept}
 use Rattle.elimination_rules.proofs.Count.{one_kept}
-use Rattle.elimination.specs.Requires.{Ready, Countable, smallest_size, Placed, Lined}
-use Rattle.elimination.specs.Heard.{wanted_of}
-use Rattle.elimination.specs.declared.call.Verdict as W
+use Rattle.elimination.specs.Requires.{Countable, smallest_size}
+use Rattle.elimination.specs.Room.{SameRoom, Placed, Lined}
+use Rattle.elimination.specs.Views.{turn_of, outcome_of, verdict_of}
+use Rattle.std.specs.Result.{IsErrAnd, MatchResult}
+use Rattle.elimination.specs.declared.progress.Progress.{Progress}
+use Rattle.elimination.specs.declared.progress.Stop as Why
+use Rattle.elimination.specs.declared.progress.Stopped.{Stopped}
+use Rattle.elimination.specs.declared.refusal.Refusal.{Refusal}
+use Rattle.elimination.specs.Refusals.{number_of, place_of}
+use Rattle.elimination.specs.Heard.{answer_of}
+use Rattle.elimination.specs.declared.room.Elimination.{Elimination}
 
 -- "more than any exponent's size"
 pub fuel_enough : (u : ℕ) (e : List ℤ) → all_in_limit e ≡ true → smallest_size u e < fuel
@@ -58,13 +68,23 @@ unfolding solve
 solve_ends u v t e k f a o r h zero l = absurd (omega arith)
 solve_ends u v t e k f a o r h (suc n) l = rw r (h (λ t' e'. solve quotient n u v t' e' (k + 1) f))
 
+-- A round that ends the work.
+pub solve_stops : (u v : ℕ) (t e : List ℤ) (k f : ℕ) (t' e' : List ℤ) (s : Why.Stop) → round quotient u v t e f ≡ turn_of (Err s) t' e'
+    → (r : Result Progress Why.Stop) → IsErrAnd r (λ x. x ≡ s) → (n : ℕ) → smallest_size u e < n → solve quotient n u v t e k f ≡ outcome_of r t'
+solve_stops u v t e k f t' e' Why.TheVariants.Clash h (Err Why.TheVariants.Clash) x = solve_ends u v t e k f clash clashed h (λ go. refl)
+solve_stops u v t e k f t' e' Why.TheVariants.Wide h (Err Why.TheVariants.Wide) x = solve_ends u v t e k f wide widened h (λ go. refl)
+solve_stops u v t e k f t' e' Why.TheVariants.Clash h (Err Why.TheVariants.Wide) x = cc
+solve_stops u v t e k f t' e' Why.TheVariants.Wide h (Err Why.TheVariants.Clash) x = cc
+solve_stops u v t e k f t' e' s h (Ok p) x = absurd x
+
 -- A round that goes on leaves an equation as it was, but smaller.
 pub record Going (u v : ℕ) (t e : List ℤ) (k f : ℕ) (t' e' : List ℤ) : Type 0 where
   pub turn : round quotient u v t e f ≡ again t' e'
   pub smaller : smallest_size u e' < smallest_size u e
   pub counts : k + 1 < 2 ^ 32
   pub countable : Countable u (k + 1) e'
-  pub ready : (q : List ℤ) → length q ≡ length e → Ready u v t' e' q
+  pub table : all_in_limit t' ≡ true
+  pub equation : all_in_limit e' ≡ true
 
 pub solve_goes : {u v : ℕ} {t e : List ℤ} {k f : ℕ} {t' e' : List ℤ} (o : Outcome) → Going u v t e k f t' e'
     → ((n : ℕ) → smallest_size u e' < n → solve quotient n u v t' e' (k + 1) f ≡ o) → (n : ℕ) → smallest_size u e < n → solve quotient n u v t e k f ≡ o
@@ -72,25 +92,12 @@ unfolding solve
 solve_goes o g h zero l = absurd (omega arith)
 solve_goes o g h (suc n) l = rw g.turn (h n (omega arith))
 
-module _ {u v : ℕ} {t e q : List ℤ} (R : Ready u v t e q) (k f : ℕ) (c : Countable u k e) where
+module _ (u v : ℕ) (t e : List ℤ) (rows : length t ≡ v * length e) (limited : all_in_limit e ≡ true) (k f : ℕ) (c : Countable u k e) where
   pub going : {t' e' : List ℤ} → round quotient u v t e f ≡ again t' e' → Going u v t e k f t' e'
   going {t'} {e'} r =
       let m = again_remains rounded_down u v t e f r in
-      let h = again_tabled quotient u v (length e) t e f refl R.rows r in
-      record {
-        turn = r;
-        smaller = m.smaller;
-        counts = omega arith;
-        countable = omega arith;
-        ready = λ p l. record {
-          table = h.limited;
-          equation = m.limited R.equation;
-          columns = omega arith;
-          word = R.word;
-          rows = rw m.long h.long;
-          room = omega arith;
-        };
-      }
+      let h = again_tabled quotient u v (length e) t e f refl rows r in
+      record { turn = r; smaller = m.smaller; counts = omega arith; countable = omega arith; table = h.limited; equation = m.limited limited }
 
   -- One that solves has picked an unknown, so that it can be counted.
   abbrev Counts : Turn → Type 0
@@ -109,7 +116,13 @@ module _ {u v : ℕ} {t e q : List ℤ} (R : Ready u v t e q) (k f : ℕ) (c : C
 
 -- ---- one equation
 good_in_limit : (r e : List ℤ) → judged r ≡ good e → all_in_limit e ≡ true
-good_in_limit r e j = let h = judged_true r e true j refl in ap all_in_limit h.0 ∙ h.1
+good_in_limit r e j = let h = judged_ok r e (Ok tt) j refl in ap all_in_limit h.0 ∙ h.1
+
+-- What the code says of a row past the limit.
+pub said_widened : {o : Outcome} → o ≡ widened → (r : Result Progress Why.Stop) (t : List ℤ) → IsErrAnd r (λ x. x ≡ Why.TheVariants.Wide) → o ≡ outcome_of r t
+said_widened w (Err Why.TheVariants.Wide) t h = w
+said_widened w (Err Why.TheVariants.Clash) t h = cc
+said_widened w (Ok p) t h = absurd h
 
 module _ (u v : ℕ) (t e : List ℤ) (k f : ℕ) where
   pub one_wide : all_in_limit e ≡ false → one quotient fuel u v t e k f ≡ widened
@@ -126,12 +139,38 @@ module _ (u v : ℕ) (t e : List ℤ) (k f : ℕ) where
     unfolding one
     one_solves e' o j s = rw (h, j) (s fuel (fuel_enough u e' (good_in_limit (replaced u v t e) e' j)))
 
-pub replaced_ready : {u v k : ℕ} {t room q sums e : List ℤ} (e' : List ℤ) → Placed u v t room q sums e k → length e' ≡ length room → judged (replaced u v t e) ≡ good e'
-    → Ready u v t e' q × Countable u k e'
-replaced_ready {u} {v} {k} {t} {room} {q} {sums} {e} e' P l j =
-    let h = good_in_limit (replaced u v t e) e' j in
-    let s : length e' ≡ length e = omega arith in
-    (record { table = P.table; equation = h; columns = omega arith; word = P.word; rows = rw s P.rows; room = omega arith }, omega (arith, fuel_enough u e' h))
+-- What is then solved.
+pub replaced_countable : (u k : ℕ) (r e' : List ℤ) → judged r ≡ good e' → k + 100000000 < 2 ^ 32 → (all_in_limit e' ≡ true) × Countable u k e'
+replaced_countable u k r e' j c = let h = good_in_limit r e' j in (h, omega (arith, fuel_enough u e' h))
+
+-- What `map_err` was given, by what it made of it.
+module _ {A B C : Type 0} (r : Result A B) {r' : Result A C} (P : B → C → Type 0) (m : MatchResult r (λ x. r' ≡ Ok x) (λ y. IsErrAnd r' (P y))) where
+  pub mapped_ok : {x : A} → r' ≡ Ok x → r ≡ Ok x
+  mapped_ok {x} e = by r m
+    where
+      by : (r : Result A B) → MatchResult r (λ x. r' ≡ Ok x) (λ y. IsErrAnd r' (P y)) → r ≡ Ok x
+      by (Ok y) m = cc
+      by (Err y) m = absurd (rw e at m)
+
+  pub mapped_err : {z : C} → r' ≡ Err z → (y : B) × ((r ≡ Err y) × P y z)
+  mapped_err {z} e = by r m
+    where
+      by : (r : Result A B) → MatchResult r (λ x. r' ≡ Ok x) (λ y. IsErrAnd r' (P y)) → (y : B) × ((r ≡ Err y) × P y z)
+      by (Ok y) m = cc
+      by (Err y) m = (y, (refl, rw e at m))
+
+-- What two methods keep, one after the other.
+pub room_again : {s t x : Elimination} → SameRoom s t → SameRoom t x → SameRoom s x
+room_again a b = record {
+  unknown_columns = b.unknown_columns ∙ a.unknown_columns;
+  unknowns = b.unknowns ∙ a.unknowns;
+  width = b.width ∙ a.width;
+  sums_room = b.sums_room ∙ a.sums_room;
+  table = b.table ∙ a.table;
+  equation = b.equation ∙ a.equation;
+  quotients = b.quotients ∙ a.quotients;
+  sums = b.sums ∙ a.sums;
+}
 
 -- ---- a loop over m rows of w numbers, end to end in es: i are behind, and the rest starts at a
 pub record Passed (w m : ℕ) (es : List ℤ) (a i : ℕ) : Type 0 where
@@ -182,16 +221,22 @@ pub record Lining (u v w m : ℕ) (es t : List ℤ) (k f a i : ℕ) : Type 0 whe
   pub counted : k + fuel * count v f ≤ fuel * v
   pub is : eliminate quotient fuel u v w m es ≡ each quotient fuel u v w (m - i) i (drop a es) t k f
 
-module _ {u v m : ℕ} {t₀ replaced₀ q₀ sums₀ es : List ℤ} (S : Lined u v m t₀ replaced₀ q₀ sums₀ es) where
-  abbrev w : ℕ
-  w = length q₀
+module _ {s : Elimination} {es : List ℤ} {m : ℕ} (S : Lined s es m) where
+  abbrev u : ℕ
+  u = s.unknown_columns
 
-  pub lining_none : Lining u v w m es t₀ 0 (first_set v) 0 0
-  lining_none = record {
+  abbrev v : ℕ
+  v = s.unknowns
+
+  abbrev w : ℕ
+  w = length s.equation.now
+
+  pub lining_none : (t : List ℤ) → t ≡ start w v → Lining u v w m es t 0 (first_set v) 0 0
+  lining_none t b = record {
     passed = passed_none S.long;
-    kept = rw S.begins (start_kept u v w (omega arith));
+    kept = rw b (start_kept u v w (omega (arith, S.unknowns, s.columns)));
     counted = rw (count_first v) (omega arith);
-    is = rw (sub-zero, S.begins);
+    is = rw (sub-zero, b);
   }
 
   module _ {t : List ℤ} {k f a i : ℕ} (L : Lining u v w m es t k f a i) where
@@ -211,37 +256,36 @@ module _ {u v m : ℕ} {t₀ replaced₀ q₀ sums₀ es : List ℤ} (S : Lined 
       next_one = let d : m - i ≡ suc (m - (i + 1)) = omega arith in rw d at L.is
 
       -- The rounds still fit.
-      pub lining_placed : (replaced q sums : List ℤ) → length replaced ≡ length replaced₀ → length q ≡ w → length sums ≡ length sums₀ → Placed u v t replaced q sums e k
-      lining_placed replaced q sums lr lq ls =
-          let p : length e ≡ w = passed_part L.passed h in
-          record {
-            table = L.kept.limit;
-            unknowns = S.unknowns;
-            columns = omega arith;
-            word = S.word;
-            rows = rw p L.kept.long;
-            replaced_room = omega arith;
-            room = omega arith;
-            sums_room = omega arith;
-            count = omega arith;
-          }
+      pub lining_placed : {s' : Elimination} → SameRoom s s' → s'.table.now ≡ t → Placed s' e k
+      lining_placed {s'} R x = record {
+        table = ap all_in_limit x ∙ L.kept.limit;
+        unknowns = omega (arith, S.unknowns, R.unknowns, R.unknown_columns);
+        sums = R.sums_room ∙ S.sums ∙ sym R.width;
+        long = passed_part L.passed h ∙ sym R.width;
+        count = omega (arith, L.counted, S.few);
+      }
 
-      pub lining_stop : (o : Outcome) (z : Verdict) → one quotient fuel u v t e k f ≡ o → ((go : List ℤ → ℕ → ℕ → Verdict) → on_outcome go i o ≡ z)
-          → eliminate quotient fuel u v w m es ≡ z
-      lining_stop o z r g = rw r at next_one ∙ g rest
+      stop : (o : Outcome) (z : Verdict) → one quotient fuel u v t e k f ≡ o → ((go : List ℤ → ℕ → ℕ → Verdict) → on_outcome go i o ≡ z) → eliminate quotient fuel u v w m es ≡ z
+      stop o z r g = rw r at next_one ∙ g rest
+
+      -- Equation i ended the work, and the code says so.
+      pub lining_stop : (why : Why.Stop) (t' : List ℤ) → one quotient fuel u v t e k f ≡ outcome_of (Err why) t' → (d : Stopped) → d ≡ record { why = why; at = i }
+          → (r : Result Progress Stopped) → IsErrAnd r (λ x. x ≡ d) → eliminate quotient fuel u v w m es ≡ verdict_of r t'
+      lining_stop Why.TheVariants.Clash t' h d d' (Err x) x' = rw (x', d') (stop clashed (clash_at i) h (λ go. refl))
+      lining_stop Why.TheVariants.Wide t' h d d' (Err x) x' = rw (x', d') (stop widened (wide_at i) h (λ go. refl))
+      lining_stop why t' h d d' (Ok p) x' = absurd x'
 
       pub lining_more : (t' : List ℤ) (k' f' : ℕ) → one quotient fuel u v t e k f ≡ done t' k' f' → Lining u v w m es t' k' f' (a + w) (i + 1)
       lining_more t' k' f' r =
-          let n = one_kept rounded_down fuel u v w (omega arith) (omega arith) t e k f (passed_part L.passed h) L.kept r in
+          let n = one_kept rounded_down fuel u v w (omega (arith, S.unknowns, s.columns)) (omega (arith, S.unknowns, s.word)) t e k f (passed_part L.passed h) L.kept r in
           record { passed = passed_more L.passed h; kept = n.0; counted = omega (arith, n.1); is = rw (← drop-drop w a es) (rw r at next_one) }
 
--- ---- the answer
-pub wanted_few : (x : W.Verdict) (n : ℕ) → wanted_of x n ≤ n
-wanted_few (W.TheVariants.Accepted k f) n = omega arith
-wanted_few (W.TheVariants.Clash i) n = omega arith
-wanted_few (W.TheVariants.Wide i) n = omega arith
-
 -- ---- the call
+-- What the code says of a refusal d.
+pub said_refused : (d : Refusal) (r : Result Progress Refusal) (t : List ℤ) → IsErrAnd r (λ x. x ≡ d) → refuses (number_of d) (place_of d) t ≡ answer_of number_of place_of r t
+said_refused d (Err x) t e = rw e refl
+said_refused d (Ok p) t e = absurd e
+
 module _ (v : ℕ) (es lent : List ℤ) where
   pub refuses_unknowns : 24 < v → eliminated v es lent ≡ refuses 3 0 lent
   unfolding eliminated

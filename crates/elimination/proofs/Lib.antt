@@ -1,3 +1,3 @@
 pub mod Tables
-pub mod Turns
 pub mod Courses
+pub mod Turns

@@ -11,11 +11,14 @@ use lib.ListN.{length, take, drop, length-drop}
 use lib.Seq.{take_all, length-take-le}
 use Rattle.whole.specs.Size.{in_limit}
 use Rattle.row.specs.Row.{at, all_in_limit}
+use Rattle.std.specs.Prelude.{Result, Ok, Err}
+use Rattle.std.specs.Result.{IsErr}
+use Rattle.whole.specs.declared.number.PastLimit.{PastLimit}
 use Rattle.row.specs.Judged.{judged, judged_of}
 use Rattle.row.specs.Table.{itself, start_from, start}
 use Rattle.row.specs.Tables.{all_both, all_take, all_drop, length_itself}
 use Rattle.row.specs.Values.{plus_zero}
-use Rattle.row.proofs.Judging.{judged_true, judged_false}
+use Rattle.row.proofs.Judging.{judged_ok, judged_err}
 use Rattle.row.proofs.RowLoops.{Worked, worked_none, worked_all, worked_good, worked_room, worked_stop, worked_more, row_less, put_front}
 use Rattle.elimination_rules.specs.Round.{swap, swaps}
 use Rattle.elimination.specs.Requires.{Swappable}
@@ -62,7 +65,7 @@ module _ {w v : ℕ} {t : List ℤ} {a j : ℕ} (S : Started w v t a j) where
         }
 
 -- ---- a row with unknown j replaced, where it has none of it
-pub swap_none : (j : ℕ) (q r : List ℤ) → all_in_limit r ≡ true → length q ≡ length r → at r j ≡ pos 0 → judged (swap j q r) ≡ judged_of true r
+pub swap_none : (j : ℕ) (q r : List ℤ) → all_in_limit r ≡ true → length q ≡ length r → at r j ≡ pos 0 → judged (swap j q r) ≡ judged_of (Ok tt) r
 swap_none j q r h l e = rw (e, plus_zero r q (omega arith), h)
 
 -- ---- a loop that replaces unknown j in each row: n rows are left, from a on; the table is t, and each number in it within the limit
@@ -76,7 +79,7 @@ pub swapping_none : (v j : ℕ) (t q : List ℤ) → Swappable v j t q → Swapp
 swapping_none v j t q S = record { column = S.column; same = refl; good = S.table; work = worked_none in_limit _ _ _ t v S.rows refl }
 
 module _ {t₀ q : List ℤ} {j v : ℕ} {t : List ℤ} {a n : ℕ} (S : Swapping t₀ q j v t a n) where
-  pub swapping_all : n ≡ 0 → judged (swaps v j q t₀) ≡ judged_of true t
+  pub swapping_all : n ≡ 0 → judged (swaps v j q t₀) ≡ judged_of (Ok tt) t
   swapping_all z =
       let W = rw z at S.work in
       rw (worked_good in_limit _ _ (swaps v j q t₀) t a W, worked_all in_limit _ _ _ t a W)
@@ -98,13 +101,14 @@ module _ {t₀ q : List ℤ} {j v : ℕ} {t : List ℤ} {a n : ℕ} (S : Swappin
     swapping_same l k = same_len_mid a (length q) t l k ∙ S.same
 
     -- The row was judged, and is now l.
-    module _ (b : Bool) (l : List ℤ) (e : judged (swap j q row) ≡ judged_of b l) where
-      pub swapping_stop : b ≡ false → judged (swaps v j q t₀) ≡ judged_of false t
-      swapping_stop f = rw (worked_stop in_limit _ _ _ t a n S.work h (judged_false (swap j q row) l b e f))
+    module _ (r : Result (Unit {0}) PastLimit) (l : List ℤ) (e : judged (swap j q row) ≡ judged_of r l) where
+      pub swapping_stop : {p : PastLimit} → r ≡ Err p → (r' : Result (Unit {0}) PastLimit) (t' : List ℤ) → IsErr r' → judged (swaps v j q t₀) ≡ judged_of r' t'
+      swapping_stop f (Err p') t' x = rw (worked_stop in_limit _ _ _ t a n S.work h (judged_err (swap j q row) l r e f))
+      swapping_stop f (Ok u) t' x = cc
 
-      pub swapping_more : b ≡ true → length l ≡ length row → Swapping t₀ q j v (take a t ++ (l ++ drop (length q) (drop a t))) (a + length q) (n - 1)
+      pub swapping_more : {u : Unit {0}} → r ≡ Ok u → length l ≡ length row → Swapping t₀ q j v (take a t ++ (l ++ drop (length q) (drop a t))) (a + length q) (n - 1)
       swapping_more y k =
-          let g = judged_true (swap j q row) l b e y in
+          let g = judged_ok (swap j q row) l r e y in
           let good : all_in_limit l ≡ true = ap all_in_limit g.0 ∙ g.1 in
           record {
             column = S.column;

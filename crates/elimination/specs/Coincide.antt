@@ -1,41 +1,51 @@
 -- What the contract of `eliminate` says of its results: any two that it permits coincide, and the rows of an accepted table are
 -- within the limit.
-use Rattle.std.specs.Prelude.{◌≡◌, refl, ◌≢◌, true, List, ℕ, zero, suc, ◌*◌, ℤ, take}
-use Rattle.std.proofs.Common.{sym, ◌∙◌, ap}
+use Rattle.std.specs.Prelude.{◌≡◌, refl, ◌≢◌, true, List, [], ℕ, ◌*◌, ◌<◌, ℤ, take, Result, Ok, Err}
+use Rattle.std.proofs.Common.{sym, ◌∙◌, ap, ap₂, arith}
 use Rattle.row.specs.Row.{all_in_limit}
 use Rattle.elimination_rules.specs.Answer.{Answer, heard, unanswered}
 use Rattle.elimination_rules.specs.Call.{eliminated}
 use Rattle.elimination_rules.proofs.Demand.{accepted_call, answered_call}
 use Rattle.elimination.specs.Heard.{answer_of}
-use Rattle.elimination.specs.declared.call.Answer as A
+use Rattle.elimination.specs.Refusals.{number_of, place_of, number_some, told_apart}
+use Rattle.elimination.specs.declared.progress.Progress.{Progress}
+use Rattle.elimination.specs.declared.refusal.Refusal.{Refusal}
 
--- The code's answer and the table at exit, read back from what the caller hears.
-data Result : Type 0 where
-  known : A.Answer → List ℤ → Result
-  unknown : Result
+-- What the caller hears, read back: a number, a place, rounds, the mask and the table.
+abbrev number : Answer → ℕ
+number (heard n i k f t) = n
+number unanswered = 0
 
-abbrev read : ℕ → ℕ → ℕ → ℕ → A.Answer
-read zero i k f = A.TheVariants.Accepted k f
-read (suc n) i k f = A.TheVariants.Refused (suc n) i
+abbrev place : Answer → ℕ
+place (heard n i k f t) = i
+place unanswered = 0
 
-abbrev result : Answer → Result
-result (heard n i k f t) = known (read n i k f) t
-result unanswered = unknown
+abbrev rounds : Answer → ℕ
+rounds (heard n i k f t) = k
+rounds unanswered = 0
 
-read_back : (r : A.Answer) (t : List ℤ) → answer_of r t ≢ unanswered → result (answer_of r t) ≡ known r t
-read_back (A.TheVariants.Accepted k f) t h = refl
-read_back (A.TheVariants.Refused zero i) t h = absurd (h refl)
-read_back (A.TheVariants.Refused (suc n) i) t h = refl
+abbrev mask : Answer → ℕ
+mask (heard n i k f t) = f
+mask unanswered = 0
 
--- For any call with such an answer: two results that say the same, and say something, are the same.
-pub same_answer : (a : Answer) → a ≢ unanswered → (r r' : A.Answer) (t t' : List ℤ) → a ≡ answer_of r t → a ≡ answer_of r' t' → (r ≡ r') × (t ≡ t')
-same_answer a h r r' t t' e e' =
-    let k : known r t ≡ known r' t' = sym (read_back r t (λ z. h (e ∙ z))) ∙ ap result (sym e ∙ e') ∙ read_back r' t' (λ z. h (e' ∙ z)) in
-    (cc, cc)
+abbrev table : Answer → List ℤ
+table (heard n i k f t) = t
+table unanswered = []
+
+-- For any call, and refusals that a number above 0 and a place tell apart: two results that say the same are the same.
+module _ {E : Type 0} (number_of place_of : E → ℕ) (never_zero : (r : E) → 0 < number_of r) (told_apart : (r s : E) → number_of r ≡ number_of s → place_of r ≡ place_of s → r ≡ s) where
+  same_result : (r r' : Result Progress E) (t t' : List ℤ) → answer_of number_of place_of r t ≡ answer_of number_of place_of r' t' → (r ≡ r') × (t ≡ t')
+  same_result (Ok p) (Ok p') t t' e = (ap₂ (λ k f. Ok (record { rounds = k; free = f })) (ap rounds e) (ap mask e), ap table e)
+  same_result (Ok p) (Err s) t t' e = absurd (omega (arith, ap number e, never_zero s))
+  same_result (Err r) (Ok p) t t' e = absurd (omega (arith, ap number e, never_zero r))
+  same_result (Err r) (Err s) t t' e = (ap Err (told_apart r s (ap number e) (ap place e)), ap table e)
+
+  pub same_answer : (a : Answer) (r r' : Result Progress E) (t t' : List ℤ) → a ≡ answer_of number_of place_of r t → a ≡ answer_of number_of place_of r' t' → (r ≡ r') × (t ≡ t')
+  same_answer a r r' t t' e e' = same_result r r' t t' (sym e ∙ e')
 
 module _ (v : ℕ) (es lent : List ℤ) where
-  pub coincide : (r r' : A.Answer) (t t' : List ℤ) → eliminated v es lent ≡ answer_of r t → eliminated v es lent ≡ answer_of r' t' → (r ≡ r') × (t ≡ t')
-  coincide = same_answer (eliminated v es lent) (answered_call v es lent)
+  pub coincide : (r r' : Result Progress Refusal) (t t' : List ℤ) → eliminated v es lent ≡ answer_of number_of place_of r t → eliminated v es lent ≡ answer_of number_of place_of r' t' → (r ≡ r') × (t ≡ t')
+  coincide = same_answer number_of place_of number_some told_apart (eliminated v es lent)
 
-  pub accepted_in_limit : (k f : ℕ) (t : List ℤ) → eliminated v es lent ≡ answer_of (A.TheVariants.Accepted k f) t → all_in_limit (take (32 * v) t) ≡ true
-  accepted_in_limit k f t e = (accepted_call v es lent k f t e).general.kept.limit
+  pub accepted_in_limit : (p : Progress) (t : List ℤ) → eliminated v es lent ≡ answer_of number_of place_of (Ok p) t → all_in_limit (take (32 * v) t) ≡ true
+  accepted_in_limit p t e = (accepted_call v es lent p.rounds p.free t e).general.kept.limit

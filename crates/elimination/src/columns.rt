@@ -3,7 +3,7 @@ ghost use Rattle.std.specs.Prelude.{◌≡◌, ◌*◌, ◌≤◌, length};
 ghost use Rattle.whole.specs.Place.{found_of};
 ghost use Rattle.elimination_rules.specs.Call.{unused as rule_unused, first_used};
 
-// Whether columns v to u - 1 of the row are 0.
+/// Whether columns v to u - 1 of the row are 0.
 fn unused(r: &[i32], u: usize, v: usize) -> bool
     requires { (v ≤ u) × (u ≤ length r.now) }
     ensures { result ≡ rule_unused u v r.now }
@@ -11,20 +11,15 @@ fn unused(r: &[i32], u: usize, v: usize) -> bool
     row::test::all_zero(&r[v..u])
 }
 
-// The lowest of the equations, of w numbers each, with something in a column that is not used.
+/// The lowest of the equations, of w numbers each, with something in a column that is not used.
 pub fn first_used(es: &[i32], w: usize, u: usize, v: usize, count: usize) -> Option<usize>
     requires { (length es.now ≡ count * w) × (v ≤ u) × (u ≤ w) }
     ensures { first_used u v w count 0 es.now ≡ found_of result }
 {
-    let mut a = 0;
-    let mut i = 0;
-    while i < count {
-        let b = a + w;
-        if !unused(&es[a..b], u, v) {
+    for i in 0..count {
+        if !unused(&es[i * w..(i + 1) * w], u, v) {
             return Some(i);
         }
-        a = b;
-        i += 1;
     }
     None
 }

@@ -1,62 +1,96 @@
 // One equation, and equations in order.
-ghost use Rattle.std.specs.Prelude.{◌≡◌, ℕ, ◌<◌};
+ghost use Rattle.std.specs.Prelude.{◌≡◌, ℕ, ◌≤◌, ◌<◌, length};
 ghost use Rattle.whole.specs.Division.{quotient};
-ghost use Rattle.elimination_rules.specs.Equation.{solve as rule_solve, one as rule_one};
+ghost use Rattle.row.specs.Judged.{judged, judged_of};
+ghost use Rattle.row.specs.Requires.{Replaceable};
+ghost use Rattle.row.specs.Table.{start as start_table, replaced};
+ghost use Rattle.elimination_rules.specs.Equation.{solve as rule_solve, one as rule_one, eliminate as rule_eliminate};
 ghost use Rattle.elimination_rules.specs.Call.{fuel};
-ghost use Rattle.elimination.specs.Requires.{Ready, Countable, smallest_size, Placed};
-ghost use Rattle.elimination.specs.Views.{outcome_of};
+ghost use Rattle.elimination.specs.Requires.{Countable, smallest_size};
+ghost use Rattle.elimination.specs.Room.{Ready, Placed, Lined, SameRoom};
+ghost use Rattle.elimination.specs.Views.{outcome_of, verdict_of};
 
-// What an equation comes to; Done has the rounds so far and the free word.
-#[derive(Clone, Copy)]
-pub enum Solved {
-    Done(u32, u64),
-    Clash,
-    Wide,
-}
+use crate::progress::{Progress, Stop, Stopped};
+use crate::round::Turned;
+use crate::room::Elimination;
+use whole::number::PastLimit;
 
-// "and repeat with what remains": the smallest unknown's size falls at each call.
-pub fn solve(
-    table: &mut [i32],
-    e: &mut [i32],
-    q: &mut [i32],
-    u: usize,
-    v: usize,
-    rounds: u32,
-    free: u64,
-) -> Solved
-    requires { Ready u v table.old e.old q.old × Countable u rounds e.old }
-    ensures { (n : ℕ) → smallest_size u e.old < n → rule_solve quotient n u v table.old e.old rounds free ≡ outcome_of result table.new }
-{
-    let t = crate::round::round(table, e, q, u, v, free);
-    match t {
-        crate::round::Turned::Again => solve(table, e, q, u, v, rounds + 1, free),
-        crate::round::Turned::Solved(f) => Solved::Done(rounds + 1, f),
-        crate::round::Turned::Holds => Solved::Done(rounds, free),
-        crate::round::Turned::Clash => Solved::Clash,
-        crate::round::Turned::Wide => Solved::Wide,
+impl Elimination<'_> {
+    /// "and repeat with what remains": the smallest unknown's size falls at each call.
+    pub fn solve(&mut self, done: Progress) -> Result<Progress, Stop>
+        requires { Ready self.old × Countable self.old.unknown_columns done.rounds self.old.equation.now }
+        ensures solved { (n : ℕ) → smallest_size self.old.unknown_columns self.old.equation.now < n → rule_solve quotient n self.old.unknown_columns self.old.unknowns self.old.table.now self.old.equation.now done.rounds done.free ≡ outcome_of result self.new.table.now }
+        ensures room { SameRoom self.old self.new }
+    {
+        match self.round(done.free)? {
+            Turned::Holds => Ok(done),
+            Turned::Solved(free) => Ok(Progress {
+                rounds: done.rounds + 1,
+                free,
+            }),
+            Turned::Again => self.solve(Progress {
+                rounds: done.rounds + 1,
+                free: done.free,
+            }),
+        }
     }
-}
 
-// One equation: judged, its unknowns replaced, judged again, and solved.
-pub fn one(
-    table: &mut [i32],
-    replaced: &mut [i32],
-    q: &mut [i32],
-    sums: &mut [i64],
-    e: &[i32],
-    u: usize,
-    v: usize,
-    rounds: u32,
-    free: u64,
-) -> Solved
-    requires { Placed u v table.old replaced.old q.old sums.old e.now rounds }
-    ensures { rule_one quotient fuel u v table.old e.now rounds free ≡ outcome_of result table.new }
-{
-    if !row::test::all_in_limit(e) {
-        return Solved::Wide;
+    /// The table becomes each unknown equal to itself.
+    pub fn start(&mut self)
+        requires { self.old.unknowns ≤ length self.old.equation.now }
+        ensures begins { self.new.table.now ≡ start_table (length self.old.equation.now) self.old.unknowns }
+        ensures room { SameRoom self.old self.new }
+    {
+        let w = self.equation.len();
+        let v = self.unknowns;
+        crate::table::start(self.table, w, v);
     }
-    if !row::add::replace(sums, table, e, replaced, u, v) {
-        return Solved::Wide;
+
+    /// The equation becomes e with each unknown replaced by its row.
+    fn replace(&mut self, e: &[i32]) -> Result<(), PastLimit>
+        requires { Replaceable self.old.unknown_columns self.old.unknowns self.old.table.now e.now self.old.sums.now self.old.equation.now }
+        ensures judged { judged (replaced self.old.unknown_columns self.old.unknowns self.old.table.now e.now) ≡ judged_of result self.new.equation.now }
+        ensures table { self.new.table.now ≡ self.old.table.now }
+        ensures room { SameRoom self.old self.new }
+    {
+        let u = self.unknown_columns;
+        let v = self.unknowns;
+        let sums = &mut *self.sums;
+        let table = &mut *self.table;
+        let equation = &mut *self.equation;
+        row::add::replace(sums, table, e, equation, u, v)
     }
-    solve(table, replaced, q, u, v, rounds, free)
+
+    /// One equation: judged, its unknowns replaced, judged again, and solved.
+    pub fn one(&mut self, e: &[i32], done: Progress) -> Result<Progress, Stop>
+        requires { Placed self.old e.now done.rounds }
+        ensures outcome { rule_one quotient fuel self.old.unknown_columns self.old.unknowns self.old.table.now e.now done.rounds done.free ≡ outcome_of result self.new.table.now }
+        ensures room { SameRoom self.old self.new }
+    {
+        if !row::test::all_in_limit(e) {
+            return Err(Stop::Wide);
+        }
+        self.replace(e)?;
+        self.solve(done)
+    }
+
+    /// The equations in order, from the start of the table.
+    pub fn each(&mut self, es: &[i32], count: usize) -> Result<Progress, Stopped>
+        requires { Lined self.old es.now count }
+        ensures verdict { rule_eliminate quotient fuel self.old.unknown_columns self.old.unknowns (length self.old.equation.now) count es.now ≡ verdict_of result self.new.table.now }
+        ensures room { SameRoom self.old self.new }
+    {
+        self.start();
+        let w = self.equation.len();
+        let mut done = Progress {
+            rounds: 0,
+            free: whole::word::first(self.unknowns),
+        };
+        for i in 0..count {
+            done = self
+                .one(&es[i * w..(i + 1) * w], done)
+                .map_err(|why| Stopped { why, at: i })?;
+        }
+        Ok(done)
+    }
 }

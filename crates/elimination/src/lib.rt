@@ -4,5 +4,8 @@
 pub mod call;
 pub mod columns;
 pub mod equation;
+pub mod progress;
+pub mod refusal;
+pub mod room;
 pub mod round;
 pub mod table;

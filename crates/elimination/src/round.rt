@@ -1,24 +1,30 @@
 // One round.
-ghost use Rattle.std.specs.Prelude.{◌≡◌, true, ℕ, ◌<◌, nat_abs, length};
+ghost use Rattle.std.specs.Prelude.{◌≡◌, true, ◌<◌, length, take, drop};
 ghost use Rattle.whole.specs.Division.{quotient};
-ghost use Rattle.row.specs.Row.{at, all_in_limit};
-ghost use Rattle.row.specs.Divide.{quotients, remainders};
-ghost use Rattle.elimination_rules.specs.Round.{upright as upright_row, turn as rule_turn, round as rule_round};
-ghost use Rattle.elimination.specs.Requires.{Ready, Picked};
+ghost use Rattle.row.specs.Row.{all_in_limit, all_zero};
+ghost use Rattle.row.specs.Smallest.{smallest as smallest_pick};
+ghost use Rattle.row.specs.Picked.{pick_of};
+ghost use Rattle.row.specs.Judged.{judged, judged_of};
+ghost use Rattle.elimination_rules.specs.Round.{upright as upright_row, swaps, turn as rule_turn, round as rule_round};
+ghost use Rattle.elimination.specs.Requires.{Picked as PickedColumn};
+ghost use Rattle.elimination.specs.Room.{Ready, SameRoom};
 ghost use Rattle.elimination.specs.Divided.{Divided};
 ghost use Rattle.elimination.specs.Views.{turn_of};
 
-// What a round comes to; Solved has the free word.
-#[derive(Clone, Copy)]
+use crate::progress::Stop;
+use crate::room::Elimination;
+use row::smallest::Picked;
+use whole::number::PastLimit;
+
+/// What a round comes to; a solved one has the free word.
+#[derive(Clone, Copy, Debug, PartialEq, Eq)]
 pub enum Turned {
     Holds,
     Solved(u64),
     Again,
-    Clash,
-    Wide,
 }
 
-// "If its exponent p is negative, negate the whole equation".
+/// "If its exponent p is negative, negate the whole equation".
 pub fn upright(e: &mut [i32], j: usize)
     requires { (all_in_limit e.old ≡ true) × (j < length e.old) }
     ensures { e.new ≡ upright_row e.old j }
@@ -28,68 +34,80 @@ pub fn upright(e: &mut [i32], j: usize)
     }
 }
 
-// e becomes the remainders by its number at j, made positive, which is returned, and q the quotients.
-pub fn divide_by(e: &mut [i32], q: &mut [i32], j: usize) -> i32
-    requires { (all_in_limit e.old ≡ true) × (length q.old ≡ length e.old) × Picked (length e.old) j e.old }
-    ensures { Divided (upright_row e.old j) j result e.new q.new }
-{
-    upright(e, j);
-    let p = e[j];
-    row::change::divide(e, q, p);
-    p
-}
+impl Elimination<'_> {
+    fn smallest(&self) -> Option<Picked>
+        ensures { pick_of result ≡ smallest_pick (take self.now.unknown_columns self.now.equation.now) }
+    {
+        row::smallest::smallest(&self.equation[..self.unknown_columns])
+    }
 
-// The round that picked j.
-pub fn turn(
-    table: &mut [i32],
-    e: &mut [i32],
-    q: &mut [i32],
-    u: usize,
-    v: usize,
-    free: u64,
-    j: usize,
-) -> Turned
-    requires { Ready u v table.old e.old q.old × Picked u j e.old }
-    ensures { rule_turn quotient u v table.old (upright_row e.old j) free j ≡ turn_of result table.new e.new }
-{
-    let p = divide_by(e, q, j);
-    if row::test::all_zero(&e[0..u]) {
-        if row::test::all_zero(&e[u..]) {
-            if crate::table::swap_rows(table, q, j, v) {
-                return Turned::Solved(whole::word::without(free, j));
+    /// Whether each unknown of the equation is 0.
+    fn has_no_unknowns(&self) -> bool
+        ensures { result ≡ all_zero (take self.now.unknown_columns self.now.equation.now) }
+    {
+        row::test::all_zero(&self.equation[..self.unknown_columns])
+    }
+
+    /// Whether each base of the equation is 0.
+    fn has_no_bases(&self) -> bool
+        ensures { result ≡ all_zero (drop self.now.unknown_columns self.now.equation.now) }
+    {
+        row::test::all_zero(&self.equation[self.unknown_columns..])
+    }
+
+    /// The equation becomes its remainders by its number at j, made positive, which is returned.
+    pub fn divide_by(&mut self, j: usize) -> i32
+        requires { (all_in_limit self.old.equation.now ≡ true) × PickedColumn (length self.old.equation.now) j self.old.equation.now }
+        ensures divided { Divided (upright_row self.old.equation.now j) j result self.new.equation.now self.new.quotients.now }
+        ensures table { self.new.table.now ≡ self.old.table.now }
+        ensures room { SameRoom self.old self.new }
+    {
+        upright(self.equation, j);
+        let p = self.equation[j];
+        row::change::divide(self.equation, self.quotients, p);
+        p
+    }
+
+    /// Every row with unknown j replaced by the quotients, up to the first past the limit.
+    fn swap_rows(&mut self, j: usize) -> Result<(), PastLimit>
+        requires { (all_in_limit self.old.table.now ≡ true) × (j < length self.old.quotients.now) }
+        ensures judged { judged (swaps self.old.unknowns j self.old.quotients.now self.old.table.now) ≡ judged_of result self.new.table.now }
+        ensures equation { self.new.equation.now ≡ self.old.equation.now }
+        ensures room { SameRoom self.old self.new }
+    {
+        crate::table::swap_rows(self.table, self.quotients, j, self.unknowns)
+    }
+
+    /// The round that picked j.
+    pub fn turn(&mut self, free: u64, j: usize) -> Result<Turned, Stop>
+        requires { Ready self.old × PickedColumn self.old.unknown_columns j self.old.equation.now }
+        ensures turned { rule_turn quotient self.old.unknown_columns self.old.unknowns self.old.table.now (upright_row self.old.equation.now j) free j ≡ turn_of result self.new.table.now self.new.equation.now }
+        ensures room { SameRoom self.old self.new }
+    {
+        let p = self.divide_by(j);
+        if self.has_no_unknowns() {
+            if !self.has_no_bases() {
+                return Err(Stop::Clash);
             }
-            return Turned::Wide;
+            self.swap_rows(j)?;
+            return Ok(Turned::Solved(whole::word::without(free, j)));
         }
-        return Turned::Clash;
+        self.equation[j] = p;
+        self.quotients[j] = 0;
+        self.swap_rows(j)?;
+        Ok(Turned::Again)
     }
-    e[j] = p;
-    q[j] = 0;
-    if crate::table::swap_rows(table, q, j, v) {
-        return Turned::Again;
-    }
-    Turned::Wide
-}
 
-// One round of an equation over the first u columns' unknowns.
-pub fn round(
-    table: &mut [i32],
-    e: &mut [i32],
-    q: &mut [i32],
-    u: usize,
-    v: usize,
-    free: u64,
-) -> Turned
-    requires { Ready u v table.old e.old q.old }
-    ensures { rule_round quotient u v table.old e.old free ≡ turn_of result table.new e.new }
-{
-    let picked = row::smallest::smallest(&e[0..u]);
-    match picked {
-        row::smallest::Picked::Column(j, _) => turn(table, e, q, u, v, free, j),
-        row::smallest::Picked::Nothing => {
-            if row::test::all_zero(&e[u..]) {
-                return Turned::Holds;
-            }
-            Turned::Clash
+    /// One round.
+    pub fn round(&mut self, free: u64) -> Result<Turned, Stop>
+        requires { Ready self.old }
+        ensures turned { rule_round quotient self.old.unknown_columns self.old.unknowns self.old.table.now self.old.equation.now free ≡ turn_of result self.new.table.now self.new.equation.now }
+        ensures room { SameRoom self.old self.new }
+    {
+        match self.smallest() {
+            Some(picked) => self.turn(free, picked.column),
+            None if self.has_no_bases() => Ok(Turned::Holds),
+            None => Err(Stop::Clash),
         }
     }
 }

@@ -6,48 +6,38 @@ ghost use Rattle.row.specs.Table.{start as start_table};
 ghost use Rattle.elimination_rules.specs.Round.{swap, swaps};
 ghost use Rattle.elimination.specs.Requires.{Swappable};
 
-// Each unknown equal to itself.
+use whole::number::PastLimit;
+
+/// Each unknown equal to itself.
 pub fn start(table: &mut [i32], w: usize, v: usize)
     requires { (length table.old ≡ v * w) × (v ≤ w) }
     ensures { table.new ≡ start_table w v }
 {
-    let mut a = 0;
-    let mut j = 0;
-    while j < v {
-        let b = a + w;
-        row::change::itself(&mut table[a..b], j);
-        a = b;
-        j += 1;
+    for j in 0..v {
+        row::change::itself(&mut table[j * w..(j + 1) * w], j);
     }
 }
 
-// The row with unknown j replaced; one that has none of it costs no pass.
-pub fn swap_row(r: &mut [i32], q: &[i32], j: usize) -> bool
+/// The row with unknown j replaced; one that has none of it costs no pass.
+pub fn swap_row(r: &mut [i32], q: &[i32], j: usize) -> Result<(), PastLimit>
     requires { (all_in_limit r.old ≡ true) × (length q.now ≡ length r.old) × (j < length r.old) }
     ensures { judged (swap j q.now r.old) ≡ judged_of result r.new }
 {
     let f = r[j];
     if f == 0 {
-        return true;
+        return Ok(());
     }
     row::change::less(r, q, f)
 }
 
-// Every row with unknown j replaced; false at the first row past the limit.
-pub fn swap_rows(table: &mut [i32], q: &[i32], j: usize, v: usize) -> bool
+/// Every row with unknown j replaced, up to the first past the limit.
+pub fn swap_rows(table: &mut [i32], q: &[i32], j: usize, v: usize) -> Result<(), PastLimit>
     requires { Swappable v j table.old q.now }
     ensures { judged (swaps v j q.now table.old) ≡ judged_of result table.new }
 {
     let w = q.len();
-    let mut a = 0;
-    let mut left = v;
-    while 0 < left {
-        let b = a + w;
-        if !swap_row(&mut table[a..b], q, j) {
-            return false;
-        }
-        a = b;
-        left -= 1;
+    for i in 0..v {
+        swap_row(&mut table[i * w..(i + 1) * w], q, j)?;
     }
-    true
+    Ok(())
 }

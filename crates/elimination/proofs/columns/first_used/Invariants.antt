@@ -1,9 +1,6 @@
-use Rattle.std.proofs.Common.{◌-◌}
+use Rattle.std.proofs.Common.{◌*◌}
 use Rattle.elimination.proofs.Courses.{Searched}
 use Rattle.elimination.proofs.columns.first_used.Given as goal
 
 abbrev pub invariant-loop-i : goal.invariant-loop-i
-invariant-loop-i l = Searched l.u l.v l.w l.count l.es l.a l.i
-
-abbrev pub decreases-loop-i : goal.decreases-loop-i
-decreases-loop-i l = l.count - l.i
+invariant-loop-i l = Searched l.u l.v l.w l.count l.es (l.i * l.w) l.i

@@ -1,0 +1,34 @@
+// How far the work is, and what ends it.
+ghost use Rattle.std.specs.Prelude.{◌≡◌};
+ghost use Rattle.elimination.specs.declared.progress.Stop.TheVariants.{Wide};
+
+use whole::number::PastLimit;
+
+/// How far the work is: the rounds so far, and the word in which bit j is 1 exactly when unknown j is still free.
+#[derive(Clone, Copy, Debug, PartialEq, Eq)]
+pub struct Progress {
+    pub rounds: u32,
+    pub free: u64,
+}
+
+/// Why an equation ends the work.
+#[derive(Clone, Copy, Debug, PartialEq, Eq)]
+pub enum Stop {
+    Clash,
+    Wide,
+}
+
+impl From<PastLimit> for Stop {
+    ghost from_gives = { λ _ stop. stop ≡ Wide };
+
+    fn from(_past: PastLimit) -> Stop {
+        Stop::Wide
+    }
+}
+
+/// What ended the work, and the place of the equation at which it did.
+#[derive(Clone, Copy, Debug, PartialEq, Eq)]
+pub struct Stopped {
+    pub why: Stop,
+    pub at: usize,
+}

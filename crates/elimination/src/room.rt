@@ -1,0 +1,23 @@
+// The room that the work is done in.
+ghost use Rattle.std.specs.Prelude.{◌≡◌, ◌*◌, ◌≤◌, length};
+
+/// The work on equations, in lent slices.
+#[derive(Drop)]
+pub struct Elimination<'a> {
+    /// A row for each unknown, end to end.
+    pub table: &'a mut [i32],
+    /// What remains of the equation that is worked on.
+    pub equation: &'a mut [i32],
+    /// Its quotients.
+    pub quotients: &'a mut [i32],
+    /// The sums that replace an equation's unknowns by their rows.
+    pub sums: &'a mut [i64],
+    /// How many columns are unknowns', used or not.
+    pub unknown_columns: usize,
+    /// V.
+    pub unknowns: usize,
+    ghost columns: { unknown_columns ≤ length equation.now },
+    ghost word: { unknown_columns ≤ 64 },
+    ghost rows: { length table.now ≡ unknowns * length equation.now },
+    ghost quotients_room: { length quotients.now ≡ length equation.now },
+}
