@@ -47,7 +47,7 @@ impl Elimination<'_> {
     }
 
     /// The equation becomes e with each unknown replaced by its row.
-    fn replace(&mut self, e: &[i32]) -> Result<(), PastLimit>
+    pub fn replace(&mut self, e: &[i32]) -> Result<(), PastLimit>
         requires { Replaceable self.old.unknown_columns self.old.unknowns self.old.table.now e.now self.old.sums.now self.old.equation.now }
         ensures judged { judged (replaced self.old.unknown_columns self.old.unknowns self.old.table.now e.now) ≡ judged_of result self.new.equation.now }
         ensures table { self.new.table.now ≡ self.old.table.now }

@@ -3,3 +3,4 @@ pub mod Lowest
 pub mod Stores
 pub mod Sources
 pub mod Courses
+pub mod Questions

@@ -6,3 +6,4 @@ pub mod Sources
 pub mod Store
 pub mod Steps
 pub mod Working
+pub mod Asked

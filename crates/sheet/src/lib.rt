@@ -1,6 +1,7 @@
 // Calibration sheets: their bytes, their checks, their lines, and the calls on them.
 #![tactic(auto)]
 
+pub mod ask;
 pub mod check;
 pub mod line;
 pub mod operation;
