@@ -1,5 +1,5 @@
 // What is asked of a sheet, and its answer.
-ghost use Rattle.std.specs.Prelude.{◌≡◌, true, ◌≤◌, length, OnOk};
+ghost use Rattle.std.specs.Prelude.{◌≡◌, true, ◌*◌, ◌≤◌, ◌<◌, length};
 ghost use Rattle.row.specs.Row.{all_in_limit};
 ghost use Rattle.row.specs.Judged.{judged, judged_of};
 ghost use Rattle.row.specs.Table.{replaced};

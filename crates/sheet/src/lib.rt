@@ -2,6 +2,7 @@
 #![tactic(auto)]
 
 pub mod ask;
+pub mod call;
 pub mod check;
 pub mod line;
 pub mod operation;

@@ -1,9 +1,9 @@
 // The lines of a well-formed sheet in order, each through the elimination.
-ghost use Rattle.std.specs.Prelude.{◌≡◌, ◌+◌, ◌<◌, length, OnOk};
+ghost use Rattle.std.specs.Prelude.{◌≡◌, ◌+◌, ◌<◌, OnOk};
 ghost use Rattle.elimination.specs.Views.{outcome_of, verdict_of};
 ghost use Rattle.sheet_rules.specs.Work.{line_outcome, solved};
 ghost use Rattle.sheet.specs.Sheets.{shape_in, bytes_in};
-ghost use Rattle.sheet.specs.Working.{Stepping};
+ghost use Rattle.sheet.specs.Working.{Roomy, Stepping};
 
 use crate::units::Units;
 use elimination::progress::{Progress, Stop, Stopped};
@@ -18,12 +18,27 @@ pub struct Work<'a> {
     pub row: &'a mut [i32],
     /// What is taken from it.
     pub other: &'a mut [i32],
-    ghost unknown_columns: { elimination.unknown_columns ≡ units.sheet.parts.shape.unknown_columns },
-    ghost unknowns: { elimination.unknowns ≡ units.sheet.parts.shape.unknowns },
-    ghost equation_room: { length elimination.equation.now ≡ units.sheet.parts.shape.columns },
-    ghost sums_room: { length elimination.sums.now ≡ units.sheet.parts.shape.columns },
-    ghost row_room: { length row.now ≡ units.sheet.parts.shape.columns },
-    ghost other_room: { length other.now ≡ units.sheet.parts.shape.columns },
+    ghost roomy: { Roomy (shape_in units.sheet) elimination row.now other.now },
+}
+
+impl<'a> Work<'a> {
+    /// The work on the sheet of these units, with room for two rows.
+    pub fn new(
+        units: Units<'a>,
+        elimination: Elimination<'a>,
+        row: &'a mut [i32],
+        other: &'a mut [i32],
+    ) -> Work<'a>
+        requires { Roomy (shape_in units.sheet) elimination row.old other.old }
+        ensures { (result.units.sheet ≡ units.entry.sheet) × (result.units.done ≡ units.entry.done) }
+    {
+        Work {
+            units,
+            elimination,
+            row,
+            other,
+        }
+    }
 }
 
 impl Work<'_> {

@@ -23,4 +23,4 @@ pub returns-clause-outcome : goal.returns-clause-outcome
 returns-clause-outcome c =
     one_equation _ _ _ _ _ _ (rw c.in_ok-next.was at c.next.ensures.judged) (good c.equation.new.e)
     (rw (c.in_ok-equation.was, c.if-not-branch.false, c.next.ensures.sheet) at c.equation.ensures)
-    ∙ rw (c.args.self.now.unknown_columns, c.args.self.now.unknowns) at c.one.ensures.outcome
+    ∙ rw (c.args.self.now.roomy.unknown_columns, c.args.self.now.roomy.unknowns) at c.one.ensures.outcome

@@ -8,7 +8,7 @@ use Rattle.sheet.proofs.work.Work.solve.Goals as goal
 pub loop-k-init : goal.loop-k-init
 loop-k-init c =
     let s = c.args.self.now in
-    (refl, c.requires, rw c.first.ensures (lining_none s.units.sheet.formed (rw (s.equation_room, s.unknowns) at c.start.ensures.begins)))
+    (refl, c.requires, rw c.first.ensures (lining_none s.units.sheet.formed (rw (s.roomy.equation_room, s.roomy.unknowns) at c.start.ensures.begins)))
 
 pub returns-in_err-done-clause-verdict : goal.returns-in_err-done-clause-verdict
 returns-in_err-done-clause-verdict c =

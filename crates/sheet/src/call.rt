@@ -1,0 +1,96 @@
+// The calls on a sheet. None of them asks anything of its caller: bad input is refused.
+ghost use Rattle.std.specs.Prelude.{◌≡◌, true, ◌≤◌, length};
+ghost use Rattle.elimination.specs.Heard.{answer_of};
+ghost use Rattle.sheet_rules.specs.Work.{solved};
+ghost use Rattle.sheet_rules.specs.Calls.{check as rule_check, ask_line, ask_channel, lines_part};
+ghost use Rattle.sheet.specs.Sheets.{shape_in, bytes_in};
+ghost use Rattle.sheet.specs.Refusals.{number_of, place_of};
+ghost use Rattle.sheet.specs.Asked.{is_there, room_for, answer_on, asked};
+
+use crate::ask::Question;
+use crate::check::check_sheet;
+use crate::parts::Sheet;
+use crate::refusal::Refusal;
+use crate::units::Units;
+use crate::work::Work;
+use elimination::progress::Progress;
+use elimination::room::Elimination;
+
+// Owns the room.
+fn owner(sheet: &Sheet, question: Question, table: &mut [i32]) -> Result<Progress, Refusal>
+    requires { (is_there (shape_in sheet.now) question ≡ true) × (room_for (shape_in sheet.now) question ≤ length table.old) }
+    ensures { answer_on (shape_in sheet.now) (bytes_in sheet.now) question table.old (solved (shape_in sheet.now) (bytes_in sheet.now)) ≡ answer_of number_of place_of result table.new }
+{
+    let mut store = [0i32; 8192];
+    let mut rows = [0i32; 768];
+    let mut equation = [0i32; 32];
+    let mut quotients = [0i32; 32];
+    let mut sums = [0i64; 32];
+    let mut row = [0i32; 32];
+    let mut other = [0i32; 32];
+    let sheet = *sheet;
+    let shape = sheet.parts.shape;
+    let units = Units {
+        sheet,
+        store: &mut store,
+        done: 0,
+    };
+    let elimination = Elimination {
+        table: &mut rows[..shape.unknowns * shape.columns],
+        equation: &mut equation,
+        quotients: &mut quotients,
+        sums: &mut sums,
+        unknown_columns: shape.unknown_columns,
+        unknowns: shape.unknowns,
+    };
+    let mut work = Work::new(units, elimination, &mut row, &mut other);
+    work.answer(question, table)
+}
+
+// The answer to a question, in the lent table.
+fn ask(s: &[u8], question: Question, table: &mut [i32]) -> Result<Progress, Refusal>
+    ensures { asked s.now question table.old ≡ answer_of number_of place_of result table.new }
+{
+    let sheet = check_sheet(s)?;
+    let shape = sheet.parts.shape;
+    if !question.is_there(shape) {
+        return Err(Refusal::Absent);
+    }
+    if table.len() < question.room(shape) {
+        return Err(Refusal::Room);
+    }
+    owner(&sheet, question, table)
+}
+
+/// Works out every unit of the sheet, into a lent table of at least 32V numbers.
+pub fn check(s: &[u8], table: &mut [i32]) -> Result<Progress, Refusal>
+    ensures { rule_check s.now table.old ≡ answer_of number_of place_of result table.new }
+{
+    ask(s, Question::Table, table)
+}
+
+/// The unit of line k with the final table put in, into a lent table of at least 32 numbers.
+pub fn ask_line(s: &[u8], k: usize, table: &mut [i32]) -> Result<Progress, Refusal>
+    ensures { ask_line s.now k table.old ≡ answer_of number_of place_of result table.new }
+{
+    ask(s, Question::Line(k), table)
+}
+
+/// The same for the reading of channel c.
+pub fn ask_channel(s: &[u8], c: usize, table: &mut [i32]) -> Result<Progress, Refusal>
+    ensures { ask_channel s.now c table.old ≡ answer_of number_of place_of result table.new }
+{
+    ask(s, Question::Channel(c), table)
+}
+
+/// The caller's own bytes that hold the lines.
+pub fn lines(s: &[u8]) -> &[u8]
+    ensures { result.now ≡ lines_part s.now }
+{
+    let Ok(sheet) = check_sheet(s) else {
+        return &[];
+    };
+    let shape = sheet.parts.shape;
+    let from = shape.lines_at();
+    &s[from..from + 4 * shape.lines]
+}
