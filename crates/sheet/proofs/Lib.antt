@@ -4,3 +4,4 @@ pub mod Stores
 pub mod Sources
 pub mod Courses
 pub mod Questions
+pub mod Calling

@@ -1,17 +1,13 @@
-use Rattle.std.proofs.Common.{rules, ◌≡◌, true, ◌≤◌, length, ℕ, ◌+◌, ◌-◌, ◌*◌, ◌<◌, ◌/◌, ◌%◌, Bool, false, nat_eq, nat_lt, List, [], ◌∷◌, ◌++◌, slice_index_or, slice_set, bit_and, bit_or, Fits, w8, w32, w64, Bor, MutBor}
-use Rattle.elimination.specs.Heard.{answer_of}
-use Rattle.sheet_rules.specs.Work.{solved}
-use Rattle.sheet_rules.specs.Calls.{check as rule_check}
-use Rattle.sheet_rules.specs.Calls.{ask_line, ask_channel, lines_part}
-use Rattle.sheet.specs.Sheets.{shape_in, bytes_in}
-use Rattle.sheet.specs.Refusals.{number_of, place_of}
-use Rattle.sheet.specs.Asked.{is_there, room_for, answer_on, asked}
+-- `sheet::call::lines` meets its contract.
+use Rattle.std.proofs.Common.{sym}
+use native.Mathlib.Nat.{add-sub_cancel_left}
+use Rattle.sheet.proofs.Calling.{lines_refused, lines_there}
 use Rattle.sheet.proofs.call.lines.Goals as goal
 
--- src/call.rt:96:9
 pub returns-in_default : goal.returns-in_default
-returns-in_default c = ?
+returns-in_default c = sym (lines_refused _ (rw c.in_default.is at c.check_sheet.ensures.checked))
 
--- src/call.rt:92:1
 pub returns : goal.returns
-returns c = ?
+returns c =
+    let e = c.in-Ok.ensures in
+    rw (add-sub_cancel_left, c.lines_at-from.ensures) (sym (lines_there _ e.checked e.sheet.1))
