@@ -7,3 +7,4 @@ pub mod Store
 pub mod Steps
 pub mod Working
 pub mod Asked
+pub mod Coincide
