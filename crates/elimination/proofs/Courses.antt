@@ -22,14 +22,13 @@ use Rattle.row.specs.Smaller.{Least}
 use Rattle.row.specs.Table.{replaced, start}
 use Rattle.row.specs.Tables.{all_at}
 use Rattle.std.specs.Prelude.{Result, Ok, Err}
-use Rattle.whole.specs.declared.number.PastLimit.{PastLimit}
 use Rattle.row.proofs.Judging.{judged_ok}
 use Rattle.row.proofs.RowLoops.{row_less}
 use Rattle.elimination_rules.specs.Round.{Turn, holds, solved, again, clash, wide, upright, round}
 use Rattle.elimination_rules.specs.Equation.{Outcome, done, clashed, widened, on_turn, solve, one, Verdict, accepted, clash_at, wide_at, on_outcome, each, eliminate}
 use Rattle.elimination_rules.specs.Answer.{Answer, refuses}
 use Rattle.whole.specs.Place.{Found, place, nowhere, on_found}
-use Rattle.elimination_rules.specs.Call.{unused, first_used, fuel, on_verdict, eliminated}
+use Rattle.elimination_rules.specs.Call.{first_used, fuel, on_verdict, eliminated}
 use Rattle.elimination_rules.specs.General.{Kept}
 use Rattle.elimination_rules.specs.Zeros.{sized, in_length}
 use Rattle.elimination_rules.specs.Upright.{least_unknown}
@@ -39,7 +38,7 @@ use Rattle.elimination_rules.proofs.Fall.{again_remains, again_tabled}
 use Rattle.elimination_rules.specs.Kept.{start_kept}
 use Rattle.elimination_rules.proofs.Count.{one_kept}
 use Rattle.elimination.specs.Requires.{Countable, smallest_size}
-use Rattle.elimination.specs.Room.{SameRoom, Placed, Lined}
+use Rattle.elimination.specs.Room.{SameRoom, Ready, Placed, Lined}
 use Rattle.elimination.specs.Views.{turn_of, outcome_of, verdict_of}
 use Rattle.std.specs.Result.{IsErrAnd, MatchResult}
 use Rattle.elimination.specs.declared.progress.Progress.{Progress}
@@ -92,12 +91,13 @@ unfolding solve
 solve_goes o g h zero l = absurd (omega arith)
 solve_goes o g h (suc n) l = rw g.turn (h n (omega arith))
 
-module _ (u v : ℕ) (t e : List ℤ) (rows : length t ≡ v * length e) (limited : all_in_limit e ≡ true) (k f : ℕ) (c : Countable u k e) where
-  pub going : {t' e' : List ℤ} → round quotient u v t e f ≡ again t' e' → Going u v t e k f t' e'
+-- That holds of one with room for it.
+module _ {s : Elimination} (R : Ready s) (k f : ℕ) (c : Countable s.unknown_columns k s.equation.now) where
+  pub going : {t' e' : List ℤ} → round quotient s.unknown_columns s.unknowns s.table.now s.equation.now f ≡ again t' e' → Going s.unknown_columns s.unknowns s.table.now s.equation.now k f t' e'
   going {t'} {e'} r =
-      let m = again_remains rounded_down u v t e f r in
-      let h = again_tabled quotient u v (length e) t e f refl rows r in
-      record { turn = r; smaller = m.smaller; counts = omega arith; countable = omega arith; table = h.limited; equation = m.limited limited }
+      let m = again_remains rounded_down s.unknown_columns s.unknowns s.table.now s.equation.now f r in
+      let h = again_tabled quotient s.unknown_columns s.unknowns (length s.equation.now) s.table.now s.equation.now f refl s.rows r in
+      record { turn = r; smaller = m.smaller; counts = omega arith; countable = omega arith; table = h.limited; equation = m.limited R.equation }
 
   -- One that solves has picked an unknown, so that it can be counted.
   abbrev Counts : Turn → Type 0
@@ -107,11 +107,12 @@ module _ (u v : ℕ) (t e : List ℤ) (rows : length t ≡ v * length e) (limite
   Counts clash = Unit {0}
   Counts wide = Unit {0}
 
-  pub solved_counts : {t' : List ℤ} {f' : ℕ} → round quotient u v t e f ≡ solved t' f' → k + 1 < 2 ^ 32
+  pub solved_counts : {t' : List ℤ} {f' : ℕ} → round quotient s.unknown_columns s.unknowns s.table.now s.equation.now f ≡ solved t' f' → k + 1 < 2 ^ 32
   solved_counts r =
+      let e = s.equation.now in
       subst Counts r
-      (round_ind quotient u v (length e) t f Counts e (λ _ _. tt) (λ _ _. tt)
-      (λ j p. turn_ind quotient u v (length e) t f Counts (upright e j) j (length_upright e j)
+      (round_ind quotient s.unknown_columns s.unknowns (length e) s.table.now f Counts e (λ _ _. tt) (λ _ _. tt)
+      (λ j p. turn_ind quotient s.unknown_columns s.unknowns (length e) s.table.now f Counts (upright e j) j (length_upright e j)
       (record { solves = λ _ _ _. omega (arith, p.some, p.size); clashes = λ _ _. tt; goes_on = λ _ _. tt; widens = tt })))
 
 -- ---- one equation
@@ -189,30 +190,6 @@ module _ {w m : ℕ} {es : List ℤ} {a i : ℕ} (P : Passed w m es a i) (h : i 
 
   pub passed_more : Passed w m es (a + w) (i + 1)
   passed_more = record { within = omega arith; left = omega (arith, row_less m i w h) }
-
--- ---- a search for the first equation with something in a column that is not used
-pub record Searched (u v w m : ℕ) (es : List ℤ) (a i : ℕ) : Type 0 where
-  pub passed : Passed w m es a i
-  pub is : first_used u v w m 0 es ≡ first_used u v w (m - i) i (drop a es)
-
-pub searched_none : (u v w m : ℕ) (es : List ℤ) → length es ≡ m * w → Searched u v w m es 0 0
-searched_none u v w m es e = record { passed = passed_none e; is = rw sub-zero }
-
-module _ {u v w m : ℕ} {es : List ℤ} {a i : ℕ} (S : Searched u v w m es a i) where
-  pub searched_end : m ≤ i → first_used u v w m 0 es ≡ nowhere
-  unfolding first_used
-  searched_end h = let z : m - i ≡ 0 = omega arith in rw z at S.is
-
-  module _ (h : i < m) where
-    next : first_used u v w m 0 es ≡ if (unused u v (take w (drop a es))) (first_used u v w (m - (i + 1)) (i + 1) (drop w (drop a es))) (place i)
-    unfolding first_used
-    next = let d : m - i ≡ suc (m - (i + 1)) = omega arith in rw d at S.is
-
-    pub searched_stop : unused u v (take w (drop a es)) ≡ false → first_used u v w m 0 es ≡ place i
-    searched_stop e = rw e at next
-
-    pub searched_more : unused u v (take w (drop a es)) ≡ true → Searched u v w m es (a + w) (i + 1)
-    searched_more e = record { passed = passed_more S.passed h; is = rw (← drop-drop w a es) (rw e at next) }
 
 -- ---- the equations in order: the table is t after k rounds, with the word f
 pub record Lining (u v w m : ℕ) (es t : List ℤ) (k f a i : ℕ) : Type 0 where

@@ -1,3 +1,4 @@
 pub mod Tables
 pub mod Courses
 pub mod Turns
+pub mod Unused

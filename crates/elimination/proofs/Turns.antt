@@ -1,5 +1,5 @@
 -- Laws of one round: what it comes to by its tests.
-use mathlib.Core.Path.{◌≡◌, refl, subst, ◌∙◌}
+use mathlib.Core.Path.{◌≡◌, subst}
 use mathlib.Core.Bool.{true, false}
 use mathlib.Core.List.{List}
 use Prim.Native.Nat.{ℕ}

@@ -1,11 +1,11 @@
 -- What the contract of `eliminate` says of its results: any two that it permits coincide, and the rows of an accepted table are
 -- within the limit.
-use Rattle.std.specs.Prelude.{◌≡◌, refl, ◌≢◌, true, List, [], ℕ, ◌*◌, ◌<◌, ℤ, take, Result, Ok, Err}
+use Rattle.std.specs.Prelude.{◌≡◌, true, List, [], ℕ, ◌*◌, ◌<◌, ℤ, take, Result, Ok, Err}
 use Rattle.std.proofs.Common.{sym, ◌∙◌, ap, ap₂, arith}
 use Rattle.row.specs.Row.{all_in_limit}
 use Rattle.elimination_rules.specs.Answer.{Answer, heard, unanswered}
 use Rattle.elimination_rules.specs.Call.{eliminated}
-use Rattle.elimination_rules.proofs.Demand.{accepted_call, answered_call}
+use Rattle.elimination_rules.proofs.Demand.{accepted_call}
 use Rattle.elimination.specs.Heard.{answer_of}
 use Rattle.elimination.specs.Refusals.{number_of, place_of, number_some, told_apart}
 use Rattle.elimination.specs.declared.progress.Progress.{Progress}

@@ -1,7 +1,6 @@
 -- What the functions of the elimination ask of their callers.
-use Rattle.std.specs.Prelude.{◌≡◌, true, List, ℕ, ◌+◌, ◌*◌, ◌≤◌, ◌<◌, ◌^◌, length, take, ℤ, nat_abs}
+use Rattle.std.specs.Prelude.{◌≡◌, true, List, ℕ, ◌+◌, ◌*◌, ◌<◌, ◌^◌, length, take, ℤ, nat_abs}
 use Rattle.row.specs.Row.{at, all_in_limit}
-use Rattle.row.specs.Table.{start}
 use Rattle.row.specs.Smallest.{smallest, size_of}
 
 -- A table that unknown j can be replaced in by q.
@@ -21,4 +20,3 @@ smallest_size u e = size_of (smallest (take u e))
 
 abbrev pub Countable : ℕ → ℕ → List ℤ → Type 0
 Countable u k e = k + smallest_size u e < 2 ^ 32
-

@@ -1,8 +1,6 @@
 -- What the methods of an elimination ask of its room, and what they keep.
 use Rattle.std.specs.Prelude.{◌≡◌, true, List, ℕ, ◌+◌, ◌*◌, ◌≤◌, ◌<◌, ◌^◌, length, ℤ}
 use Rattle.row.specs.Row.{all_in_limit}
-use Rattle.row.specs.Table.{start}
-use Rattle.elimination.specs.Requires.{Countable}
 use Rattle.elimination.specs.declared.room.Elimination.{Elimination}
 
 -- The same slices, of the same lengths, and the same unknowns.

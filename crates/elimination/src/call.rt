@@ -12,38 +12,33 @@ use crate::progress::{Progress, Stopped};
 use crate::refusal::Refusal;
 use crate::room::Elimination;
 
-/// The front of the caller's table takes the rows of the own table, where they are accepted.
-pub fn publish(
-    verdict: Result<Progress, Stopped>,
-    own: &[i32],
-    table: &mut [i32],
-) -> Result<Progress, Stopped>
-    requires { length own.now ≤ length table.old }
-    ensures { on_verdict table.old (verdict_of verdict own.now) ≡ answer_of stopped_number stopped_place result table.new }
-{
-    let done = verdict?;
-    row::change::copy(own, table);
-    Ok(done)
-}
-
 impl Elimination<'_> {
+    /// The front of the caller's table takes the rows, where they are accepted.
+    pub fn publish(
+        &self,
+        verdict: Result<Progress, Stopped>,
+        table: &mut [i32],
+    ) -> Result<Progress, Stopped>
+        requires { length self.now.table.now ≤ length table.old }
+        ensures { on_verdict table.old (verdict_of verdict self.now.table.now) ≡ answer_of stopped_number stopped_place result table.new }
+    {
+        let done = verdict?;
+        row::change::copy(self.table, table);
+        Ok(done)
+    }
+
     /// The equations in order, and the caller's table written where they are accepted.
     pub fn work(&mut self, es: &[i32], count: usize, table: &mut [i32]) -> Result<Progress, Stopped>
         requires { Lined self.old es.now count × (self.old.unknowns * length self.old.equation.now ≤ length table.old) }
         ensures { on_verdict table.old (rule_eliminate quotient fuel self.old.unknown_columns self.old.unknowns (length self.old.equation.now) count es.now) ≡ answer_of stopped_number stopped_place result table.new }
     {
         let verdict = self.each(es, count);
-        publish(verdict, self.table, table)
+        self.publish(verdict, table)
     }
 }
 
 /// Owns the room.
-fn owner(
-    v: usize,
-    es: &[i32],
-    count: usize,
-    table: &mut [i32],
-) -> Result<Progress, Stopped>
+fn owner(v: usize, es: &[i32], count: usize, table: &mut [i32]) -> Result<Progress, Stopped>
     requires { (v ≤ 24) × (32 * v ≤ length table.old) × (length es.now ≡ count * 32) }
     ensures { on_verdict table.old (rule_eliminate quotient fuel 24 v 32 count es.now) ≡ answer_of stopped_number stopped_place result table.new }
 {

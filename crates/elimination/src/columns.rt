@@ -16,10 +16,5 @@ pub fn first_used(es: &[i32], w: usize, u: usize, v: usize, count: usize) -> Opt
     requires { (length es.now ≡ count * w) × (v ≤ u) × (u ≤ w) }
     ensures { first_used u v w count 0 es.now ≡ found_of result }
 {
-    for i in 0..count {
-        if !unused(&es[i * w..(i + 1) * w], u, v) {
-            return Some(i);
-        }
-    }
-    None
+    (0..count).find(|&i| !unused(&es[i * w..(i + 1) * w], u, v))
 }

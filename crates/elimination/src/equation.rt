@@ -11,8 +11,8 @@ ghost use Rattle.elimination.specs.Room.{Ready, Placed, Lined, SameRoom};
 ghost use Rattle.elimination.specs.Views.{outcome_of, verdict_of};
 
 use crate::progress::{Progress, Stop, Stopped};
-use crate::round::Turned;
 use crate::room::Elimination;
+use crate::round::Turned;
 use whole::number::PastLimit;
 
 impl Elimination<'_> {
@@ -24,14 +24,8 @@ impl Elimination<'_> {
     {
         match self.round(done.free)? {
             Turned::Holds => Ok(done),
-            Turned::Solved(free) => Ok(Progress {
-                rounds: done.rounds + 1,
-                free,
-            }),
-            Turned::Again => self.solve(Progress {
-                rounds: done.rounds + 1,
-                free: done.free,
-            }),
+            Turned::Solved(free) => Ok(done.after_round(free)),
+            Turned::Again => self.solve(done.after_round(done.free)),
         }
     }
 

@@ -1,5 +1,5 @@
 // How far the work is, and what ends it.
-ghost use Rattle.std.specs.Prelude.{◌≡◌};
+ghost use Rattle.std.specs.Prelude.{◌≡◌, ◌+◌, ◌<◌, ◌^◌};
 ghost use Rattle.elimination.specs.declared.progress.Stop.TheVariants.{Wide};
 
 use whole::number::PastLimit;
@@ -9,6 +9,19 @@ use whole::number::PastLimit;
 pub struct Progress {
     pub rounds: u32,
     pub free: u64,
+}
+
+impl Progress {
+    /// One round more, with the word that it leaves.
+    pub fn after_round(self, free: u64) -> Progress
+        requires { self.rounds + 1 < 2 ^ 32 }
+        ensures { (result.rounds ≡ self.rounds + 1) × (result.free ≡ free) }
+    {
+        Progress {
+            rounds: self.rounds + 1,
+            free,
+        }
+    }
 }
 
 /// Why an equation ends the work.

@@ -56,9 +56,8 @@ impl Refuses for Refusal {
 
     fn place(self) -> usize {
         match self {
-            Refusal::UnusedColumn(equation)
-            | Refusal::Wide(equation)
-            | Refusal::Clash(equation) => equation,
+            Refusal::UnusedColumn(equation) | Refusal::Wide(equation) | Refusal::Clash(equation) =>
+                equation,
             Refusal::TooManyUnknowns | Refusal::UnevenLength | Refusal::TableTooShort => 0,
         }
     }

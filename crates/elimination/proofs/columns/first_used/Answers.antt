@@ -1,18 +1,16 @@
--- `elimination::columns::first_used` meets its contract. The loop's invariant: what the rest of the equations comes to is what all of them come to.
-use Rattle.std.proofs.Common.{sym, ◌∙◌, arith}
-use native.Mathlib.Nat.{add-sub_cancel_left}
-use Rattle.row.proofs.RowLoops.{next_row}
-use Rattle.elimination.proofs.Courses.{searched_end, searched_stop, searched_more}
+-- `elimination::columns::first_used` meets its contract.
+use Rattle.std.proofs.Common.{rules, refl, not}
+use Rattle.std.proofs.lemmas.Iterator.{YieldsList-from_range}
+use Rattle.std.proofs.lemmas.Iterator.Search.{find_from_yields_List}
+use borrow.Author.Tests.{tests}
+use native.Mathlib.Nat.{sub-zero}
+use Rattle.elimination_rules.specs.Call.{unused}
+use Rattle.elimination.proofs.Unused.{equation, used_found}
 use Rattle.elimination.proofs.columns.first_used.Goals as goal
 
-pub returns-then-not-unused : goal.returns-then-not-unused
-returns-then-not-unused c =
-    searched_stop c.loop-i.invariant c.loop-i-test.true (sym (rw (next_row c.loop-i.i c.args.w, add-sub_cancel_left) at c.unused.ensures) ∙ c.if-not-unused.true)
-
-pub loop-i-preserved : goal.loop-i-preserved
-loop-i-preserved c =
-    let n = next_row c.loop-i.i c.args.w in
-    rw n (searched_more c.loop-i.invariant c.loop-i-test.true (sym (rw (n, add-sub_cancel_left) at c.unused.ensures) ∙ c.if-not-unused.false))
-
 pub returns : goal.returns
-returns c = searched_end c.loop-i.invariant (omega (arith, c.loop-i-test.false))
+returns c =
+    let x = c.args in
+    used_found x.u x.v x.w x.es.now x.count c.find.result
+    (find_from_yields_List (λ i. not (unused x.u x.v (equation x.u x.v x.w x.es.now i))) _ _ c.find.result c.find.ensures.ran
+    (YieldsList-from_range 0 x.count x.count refl (sub-zero _)) (λ x b q k. search (rules, tests)))

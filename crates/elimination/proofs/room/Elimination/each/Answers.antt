@@ -25,8 +25,8 @@ loop-i-preserved c =
     let k = mapped_ok c.one.result _ c.map_err.ensures.cases c.in_ok-done.was in (
       room_again l.0 c.one.ensures.room,
       rw n
-      (lining_more c.requires l.1 c.loop-i-test.true c.one.new.self.table.now c.in_ok-done.done.rounds c.in_ok-done.done.free
-      (rw (l.0.unknown_columns, l.0.unknowns, c.start.ensures.room.width, n, add-sub_cancel_left, k) at c.one.ensures.outcome)),
+          (lining_more c.requires l.1 c.loop-i-test.true c.one.new.self.table.now c.in_ok-done.done.rounds c.in_ok-done.done.free
+          (rw (l.0.unknown_columns, l.0.unknowns, c.start.ensures.room.width, n, add-sub_cancel_left, k) at c.one.ensures.outcome)),
     )
 
 pub returns-clause-verdict : goal.returns-clause-verdict

@@ -1,7 +1,6 @@
 -- `elimination::equation::Elimination::one` meets its contract.
 use Rattle.std.proofs.Common.{sym, ap, ◌∙◌}
 use Rattle.row.specs.Row.{all_in_limit}
-use Rattle.row.specs.Table.{replaced}
 use Rattle.elimination.proofs.Courses.{one_wide, said_widened, replaced_wide, replaced_countable, one_solves}
 use Rattle.elimination.proofs.room.Elimination.one.Goals as goal
 
