@@ -9,3 +9,4 @@ pub mod refusal;
 pub mod room;
 pub mod round;
 pub mod table;
+pub mod written;

@@ -1,37 +1,43 @@
 -- What the contracts of the calls say of their results: any two that one of them permits coincide, and a refusal leaves the lent
 -- table as it was.
-use Rattle.std.specs.Prelude.{◌≡◌, refl, ◌≢◌, List, ℕ, zero, suc, ℤ}
-use Rattle.std.proofs.Common.{sym, ◌∙◌, subst}
+use Rattle.std.specs.Prelude.{◌≡◌, refl, List, ℕ, zero, suc, ◌<◌, ℤ, Result, Err}
+use Rattle.std.proofs.Common.{sym, ◌∙◌, subst, arith}
 use Rattle.row.specs.Judged.{judged_ind}
 use Rattle.elimination_rules.specs.Equation.{Verdict, accepted, clash_at, wide_at, spent_all}
 use Rattle.elimination_rules.specs.Answer.{Answer, heard, unanswered, refuses, accepts}
 use Rattle.elimination_rules.specs.Call.{on_accepted}
-use Rattle.elimination.specs.Heard.{refusal_of, answer_of}
+use Rattle.elimination.specs.Heard.{answer_of}
 use Rattle.elimination.specs.Coincide.{same_answer}
-use Rattle.elimination.specs.declared.call.Answer as A
+use Rattle.elimination.specs.declared.progress.Progress.{Progress}
 use Rattle.sheet_rules.specs.Shape.{shape_of}
 use Rattle.sheet_rules.specs.Checks.{on_checked, checked_sheet}
 use Rattle.sheet_rules.specs.Lines.{unit_at, reads}
 use Rattle.sheet_rules.specs.Work.{solved}
 use Rattle.sheet_rules.specs.Calls.{check, ask_by, ask_line, ask_channel, lines_part}
-use Rattle.sheet_rules.proofs.Answers.{check_ind, ask_ind, check_answered, line_answered, channel_answered}
+use Rattle.sheet_rules.proofs.Answers.{check_ind, ask_ind}
+use Rattle.sheet.specs.Refusals.{number_of, place_of, number_some, told_apart}
+use Rattle.sheet.specs.declared.refusal.Refusal.{Refusal}
 
 -- For a call with the answer a, where the table was lent.
 pub record Settled (lent : List ℤ) (a : Answer) : Type 0 where
-  pub coincide : (r r' : A.Answer) (t t' : List ℤ) → a ≡ answer_of r t → a ≡ answer_of r' t' → (r ≡ r') × (t ≡ t')
-  pub refused : (n i : ℕ) (t : List ℤ) → a ≡ answer_of (A.TheVariants.Refused n i) t → t ≡ lent
+  pub coincide : (r r' : Result Progress Refusal) (t t' : List ℤ) → a ≡ answer_of number_of place_of r t → a ≡ answer_of number_of place_of r' t' → (r ≡ r') × (t ≡ t')
+  pub refused : (r : Refusal) (t : List ℤ) → a ≡ answer_of number_of place_of (Err r) t → t ≡ lent
 
 abbrev Leaves : List ℤ → Answer → Type 0
 Leaves lent (heard zero i k f t) = Unit {0}
 Leaves lent (heard (suc n) i k f t) = t ≡ lent
 Leaves lent unanswered = Unit {0}
 
-settled : (lent : List ℤ) (a : Answer) → a ≢ unanswered → Leaves lent a → Settled lent a
-settled lent a h l = record { coincide = same_answer a h; refused = by }
-  where
-    by : (n i : ℕ) (t : List ℤ) → a ≡ refusal_of n i t → t ≡ lent
-    by zero i t e = absurd (h e)
-    by (suc n) i t e = subst (Leaves lent) e l
+left : (lent : List ℤ) (n i : ℕ) (t : List ℤ) → 0 < n → Leaves lent (refuses n i t) → t ≡ lent
+left lent zero i t h l = absurd (omega arith)
+left lent (suc n) i t h l = l
+
+settled : (lent : List ℤ) (a : Answer) → Leaves lent a → Settled lent a
+settled lent a l =
+    record {
+      coincide = same_answer number_of place_of number_some told_apart a;
+      refused = λ r t e. left lent (number_of r) (place_of r) t (number_some r) (subst (Leaves lent) e l);
+    }
 
 module _ (lent : List ℤ) where
   refusal_leaves : (n i : ℕ) → Leaves lent (refuses n i lent)
@@ -47,7 +53,7 @@ module _ (lent : List ℤ) where
 module _ (s : List ℕ) (lent : List ℤ) where
   pub check_settled : Settled lent (check s lent)
   check_settled =
-      settled lent (check s lent) (check_answered s lent)
+      settled lent (check s lent)
       (check_ind s lent (Leaves lent) (λ n i _ _. refusal_leaves lent n i) refl (λ _. verdict_leaves lent _ (λ _ _ _. tt) (solved (shape_of s) s)))
 
   ask_leaves : (n i place : ℕ) (r : List ℤ) → Leaves lent (on_checked (λ n i. refuses n i lent) (ask_by (shape_of s) s n i place r lent) (checked_sheet s))
@@ -57,11 +63,11 @@ module _ (s : List ℕ) (lent : List ℤ) where
 
   pub line_settled : (k : ℕ) → Settled lent (ask_line s k lent)
   unfolding ask_line
-  line_settled k = settled lent (ask_line s k lent) (line_answered s lent k) (ask_leaves (shape_of s).lines k k (unit_at (shape_of s) s k))
+  line_settled k = settled lent (ask_line s k lent) (ask_leaves (shape_of s).lines k k (unit_at (shape_of s) s k))
 
   pub channel_settled : (c : ℕ) → Settled lent (ask_channel s c lent)
   unfolding ask_channel
-  channel_settled c = settled lent (ask_channel s c lent) (channel_answered s lent c) (ask_leaves (shape_of s).channels c (shape_of s).lines (reads (shape_of s) s c))
+  channel_settled c = settled lent (ask_channel s c lent) (ask_leaves (shape_of s).channels c (shape_of s).lines (reads (shape_of s) s c))
 
 pub lines_coincide : (s l l' : List ℕ) → l ≡ lines_part s → l' ≡ lines_part s → l ≡ l'
 lines_coincide s l l' e e' = e ∙ sym e'

@@ -1,11 +1,10 @@
 -- The rows that the code's sources and sums stand for.
-use Rattle.std.specs.Prelude.{List, [], ◌∷◌, ℕ, ℤ}
+use Rattle.std.specs.Prelude.{List, [], ◌∷◌, ℕ, ℤ, Option, Some, None}
 use Rattle.row.specs.Row.{less}
 use Rattle.sheet_rules.specs.Shape.{Shape, unit_record}
 use Rattle.sheet_rules.specs.Lines.{none, unknown, reads, unit_of}
 use Rattle.sheet.specs.declared.line.Source as S
 use Rattle.sheet.specs.declared.line.Sum as M
-use Rattle.sheet.specs.declared.line.Equation as E
 
 abbrev pub source_row : Shape → List ℕ → List (List ℤ) → S.Source → List ℤ
 source_row sh s us S.TheVariants.Nothing = none sh
@@ -18,6 +17,6 @@ abbrev pub sum_row : Shape → List ℕ → List (List ℤ) → M.Sum → List �
 sum_row sh s us (M.TheVariants.Alone x) = source_row sh s us x
 sum_row sh s us (M.TheVariants.Less x f y) = less f (source_row sh s us x) (source_row sh s us y)
 
-abbrev pub equation_rows : Shape → List ℕ → List (List ℤ) → E.Equation → List (List ℤ)
-equation_rows sh s us E.TheVariants.Nothing = []
-equation_rows sh s us (E.TheVariants.One m) = sum_row sh s us m ∷ []
+abbrev pub equation_rows : Shape → List ℕ → List (List ℤ) → Option M.Sum → List (List ℤ)
+equation_rows sh s us None = []
+equation_rows sh s us (Some m) = sum_row sh s us m ∷ []

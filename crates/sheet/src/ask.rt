@@ -1,70 +1,85 @@
-// One row of a solved sheet: the unit of a line or of a channel, with the final table put in.
-ghost use Rattle.std.specs.Prelude.{◌≡◌, ◌≤◌, length};
-ghost use Rattle.sheet_rules.specs.Work.{solved};
-ghost use Rattle.sheet_rules.specs.Calls.{put_in};
-ghost use Rattle.sheet_rules.specs.Formed.{Formed};
+// What is asked of a sheet, and its answer.
+ghost use Rattle.std.specs.Prelude.{◌≡◌, true, ◌*◌, ◌≤◌, ◌<◌, length};
+ghost use Rattle.row.specs.Row.{all_in_limit};
+ghost use Rattle.row.specs.Judged.{judged, judged_of};
+ghost use Rattle.row.specs.Table.{replaced};
 ghost use Rattle.elimination.specs.Heard.{answer_of};
+ghost use Rattle.sheet_rules.specs.Lines.{units};
+ghost use Rattle.sheet_rules.specs.Work.{solved};
 ghost use Rattle.sheet.specs.Views.{shape_view};
-ghost use Rattle.sheet.specs.Store.{Stored};
-ghost use Rattle.sheet.specs.Working.{Worked};
-ghost use Rattle.sheet.specs.Asked.{asked_row, asked_place, Asked};
+ghost use Rattle.sheet.specs.Sheets.{shape_in, bytes_in};
+ghost use Rattle.sheet.specs.Sources.{source_row};
+ghost use Rattle.sheet.specs.Store.{Sourced};
+ghost use Rattle.sheet.specs.Refusals.{number_of, place_of};
+ghost use Rattle.sheet.specs.Asked.{is_there, room_for, answer_on};
 
-#[derive(Clone, Copy)]
+use crate::line::Source;
+use crate::refusal::Refusal;
+use crate::shape::Shape;
+use crate::work::Work;
+use elimination::progress::Progress;
+use whole::number::PastLimit;
+
+/// What is asked of a sheet: its table, or the unit of a line or of a channel.
+#[derive(Clone, Copy, Debug, PartialEq, Eq)]
 pub enum Question {
+    Table,
     Line(usize),
     Channel(usize),
 }
 
-// The row that is asked for, unsolved.
-fn asked_row(store: &[i32], s: &[u8], sh: crate::shape::Shape, question: Question, out: &mut [i32])
-    requires { Formed (shape_view sh) s.now × Stored (shape_view sh) s.now sh.lines store.now × Asked (shape_view sh) question × (length out.old ≡ sh.columns) }
-    ensures { out.new ≡ asked_row (shape_view sh) s.now question }
-{
-    match question {
-        Question::Line(k) => crate::line::read(store, s, sh, sh.lines, k, out),
-        Question::Channel(c) => {
-            let i = crate::shape::channel_record(s, sh, c);
-            crate::shape::unit_record(s, sh, i, out)
+impl Question {
+    /// Whether there is such a line or channel.
+    pub fn is_there(self, shape: Shape) -> bool
+        ensures { result ≡ is_there (shape_view shape) self }
+    {
+        match self {
+            Question::Table => true,
+            Question::Line(k) => k < shape.lines,
+            Question::Channel(c) => c < shape.channels,
+        }
+    }
+
+    /// How many numbers the lent table has to have.
+    pub fn room(self, shape: Shape) -> usize
+        requires { shape.columns * shape.unknowns < 65536 }
+        ensures { result ≡ room_for (shape_view shape) self }
+    {
+        match self {
+            Question::Table => shape.columns * shape.unknowns,
+            Question::Line(_) | Question::Channel(_) => shape.columns,
         }
     }
 }
 
-// Where a result past the limit is reported.
-fn asked_place(sh: crate::shape::Shape, question: Question) -> usize
-    ensures { result ≡ asked_place (shape_view sh) question }
-{
-    match question {
-        Question::Line(k) => k,
-        Question::Channel(_) => sh.lines,
+impl Work<'_> {
+    /// The row of a source with the final table put in, in the room of the equation.
+    fn put_in(&mut self, source: Source) -> Result<(), PastLimit>
+        requires there { Sourced (shape_in self.old.units.sheet) self.old.units.done source }
+        requires in_limit { (all_in_limit self.old.elimination.table.now ≡ true) × (all_in_limit (source_row (shape_in self.old.units.sheet) (bytes_in self.old.units.sheet) (units (shape_in self.old.units.sheet) (bytes_in self.old.units.sheet) self.old.units.done) source) ≡ true) }
+        ensures judged { judged (replaced self.old.elimination.unknown_columns self.old.elimination.unknowns self.old.elimination.table.now (source_row (shape_in self.old.units.sheet) (bytes_in self.old.units.sheet) (units (shape_in self.old.units.sheet) (bytes_in self.old.units.sheet) self.old.units.done) source)) ≡ judged_of result self.new.elimination.equation.now }
+        ensures sheet { self.new.units.sheet ≡ self.old.units.sheet }
+    {
+        self.units.load(source, self.row);
+        self.elimination.replace(self.row)
     }
-}
 
-// The answer to a question, by the verdict on the sheet.
-pub fn answer_question(
-    verdict: elimination::call::Verdict,
-    store: &[i32],
-    own: &[i32],
-    sums: &mut [i64],
-    unit: &mut [i32],
-    other: &mut [i32],
-    s: &[u8],
-    sh: crate::shape::Shape,
-    question: Question,
-    table: &mut [i32],
-) -> elimination::call::Answer
-    requires { Formed (shape_view sh) s.now × Worked (shape_view sh) s.now verdict own.now store.now × Asked (shape_view sh) question × (length sums.old ≡ sh.columns) × (length unit.old ≡ sh.columns) × (length other.old ≡ sh.columns) × (sh.columns ≤ length table.old) }
-    ensures { put_in (shape_view sh) (asked_place (shape_view sh) question) (asked_row (shape_view sh) s.now question) table.old (solved (shape_view sh) s.now) ≡ answer_of result table.new }
-{
-    match verdict {
-        elimination::call::Verdict::Clash(i) => elimination::call::Answer::Refused(10, i),
-        elimination::call::Verdict::Wide(i) => elimination::call::Answer::Refused(9, i),
-        elimination::call::Verdict::Accepted(n, f) => {
-            asked_row(store, s, sh, question, unit);
-            if !row::add::replace(sums, own, unit, other, sh.unknown_columns, sh.unknowns) {
-                return elimination::call::Answer::Refused(9, asked_place(sh, question));
+    /// The answer to a question, in the lent table.
+    pub fn answer(&mut self, question: Question, table: &mut [i32]) -> Result<Progress, Refusal>
+        requires { (self.old.units.done ≡ 0) × (is_there (shape_in self.old.units.sheet) question ≡ true) × (room_for (shape_in self.old.units.sheet) question ≤ length table.old) }
+        ensures { answer_on (shape_in self.old.units.sheet) (bytes_in self.old.units.sheet) question table.old (solved (shape_in self.old.units.sheet) (bytes_in self.old.units.sheet)) ≡ answer_of number_of place_of result table.new }
+    {
+        let done = self.solve()?;
+        let (source, place) = match question {
+            Question::Table => {
+                self.elimination.write_table(table);
+                return Ok(done);
             }
-            row::change::copy(other, table);
-            elimination::call::Answer::Accepted(n, f)
-        }
+            Question::Line(k) => (Source::Line(k), k),
+            Question::Channel(c) => (Source::Channel(c), self.units.sheet.parts.shape.lines),
+        };
+        self.put_in(source).map_err(|_past| Refusal::Wide(place))?;
+        self.elimination.write_equation(table);
+        Ok(done)
     }
 }

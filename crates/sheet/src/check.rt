@@ -1,243 +1,160 @@
 // Checks 1 to 7.
-ghost use Rattle.std.specs.Prelude.{◌≡◌, true, map, ◌≤◌, ◌<◌, ltb, length, drop};
-ghost use Rattle.whole.specs.Cases.{both};
+ghost use Rattle.std.specs.Prelude.{◌≡◌, true, map, ◌≤◌, ◌<◌, length, IfOk, Some};
 ghost use Rattle.whole.specs.Bytes.{signed};
 ghost use Rattle.whole.specs.Place.{found_of};
 ghost use Rattle.row.specs.Row.{all_zero};
 ghost use Rattle.row.specs.Requires.{all_within};
-ghost use Rattle.sheet_rules.specs.Shape.{unit_record};
-ghost use Rattle.sheet_rules.specs.Good.{good_record, good_line, code_of, good_operands};
-ghost use Rattle.sheet_rules.specs.Checks.{good_mark, good_counts, good_distances, first_record, first_channel, first_line, checks, first_failing, checked_sheet};
-ghost use Rattle.sheet_rules.specs.Formed.{Laid};
-ghost use Rattle.sheet.specs.Views.{shape_view, line_view, checked_of};
+ghost use Rattle.sheet_rules.specs.Shape.{shape_of, unit_record};
+ghost use Rattle.sheet_rules.specs.Good.{good_record, good_line, good_operands};
+ghost use Rattle.sheet_rules.specs.Checks.{good_mark, good_counts, good_distances, first_record, first_channel, first_line, checked_sheet};
+ghost use Rattle.sheet.specs.Views.{shape_view, line_view};
+ghost use Rattle.sheet.specs.Operations.{code_for};
+ghost use Rattle.sheet.specs.Refusals.{checked_of};
 
-// The number of the check that refuses and its place, or none does.
-#[derive(Clone, Copy)]
-pub enum Checked {
-    Refused(u32, usize),
-    WellFormed,
-}
+use crate::line::Line;
+use crate::operation::Operation;
+use crate::parts::{Parts, Sheet};
+use crate::refusal::Refusal;
+use crate::shape::Shape;
 
+// "last four bytes wrong" is not.
 fn good_mark(s: &[u8]) -> bool
     requires { 16 ≤ length s.now }
     ensures { result ≡ good_mark s.now }
 {
-    let t = s.len() - 16;
-    if s[t + 12] != 67 {
-        return false;
-    }
-    if s[t + 13] != 83 {
-        return false;
-    }
-    if s[t + 14] != 72 {
-        return false;
-    }
-    s[t + 15] == 49
+    s.ends_with(b"CSH1")
 }
 
-fn good_counts(s: &[u8], sh: crate::shape::Shape) -> bool
+fn good_counts(s: &[u8], shape: Shape) -> bool
     requires { 16 ≤ length s.now }
-    ensures { result ≡ good_counts s.now (shape_view sh) }
+    ensures { result ≡ good_counts s.now (shape_view shape) }
 {
-    if 24 < sh.unknowns {
-        return false;
-    }
-    if 64 < sh.records {
-        return false;
-    }
-    if 16 < sh.channels {
-        return false;
-    }
-    if 256 < sh.lines {
-        return false;
-    }
     let t = s.len() - 16;
-    s[t + 9] == 0
+    shape.unknowns <= 24
+        && shape.records <= 64
+        && shape.channels <= 16
+        && shape.lines <= 256
+        && s[t + 9] == 0
 }
 
-fn good_distances(s: &[u8], sh: crate::shape::Shape) -> bool
-    requires { (16 ≤ length s.now) × (good_counts s.now (shape_view sh) ≡ true) × (sh.columns ≤ 64) }
-    ensures { result ≡ good_distances s.now (shape_view sh) }
+fn good_distances(s: &[u8], shape: Shape) -> bool
+    requires { (16 ≤ length s.now) × (good_counts s.now (shape_view shape) ≡ true) × (shape.columns ≤ 64) }
+    ensures { result ≡ good_distances s.now (shape_view shape) }
 {
     let t = s.len() - 16;
-    let lines = 16 + 4 * sh.lines;
-    let channels = lines + sh.channels;
-    let records = channels + sh.columns * sh.records;
+    let lines = 16 + 4 * shape.lines;
+    let channels = lines + shape.channels;
+    let records = channels + shape.columns * shape.records;
     let first = whole::bytes::number_at(s, t);
-    if first != records {
-        return false;
-    }
-    if whole::bytes::number_at(s, t + 2) != channels {
-        return false;
-    }
-    if whole::bytes::number_at(s, t + 4) != lines {
-        return false;
-    }
-    first == s.len()
+    first == records
+        && whole::bytes::number_at(s, t + 2) == channels
+        && whole::bytes::number_at(s, t + 4) == lines
+        && first == s.len()
 }
 
 // "from −64 to 64"
 fn in_range(bytes: &[u8]) -> bool
     ensures { result ≡ all_within 64 (map signed bytes.now) }
 {
-    let mut i = 0;
-    while i < bytes.len() {
-        if 64 < whole::number::size(whole::bytes::exponent(bytes[i])) {
-            return false;
-        }
-        i += 1;
-    }
-    true
+    bytes
+        .iter()
+        .all(|&b| whole::bytes::exponent(b).unsigned_abs() <= 64)
 }
 
 fn all_zero(bytes: &[u8]) -> bool
     ensures { result ≡ all_zero (map signed bytes.now) }
 {
-    let mut i = 0;
-    while i < bytes.len() {
-        if bytes[i] != 0 {
-            return false;
-        }
-        i += 1;
-    }
-    true
+    bytes.iter().all(|&b| b == 0)
 }
 
-fn good_record(s: &[u8], sh: crate::shape::Shape, i: usize) -> bool
-    requires { Laid (shape_view sh) s.now × (i < sh.records) }
-    ensures { result ≡ good_record (shape_view sh) (unit_record (shape_view sh) s.now i) }
+fn good_record(parts: &Parts, i: usize) -> bool
+    requires { i < parts.now.shape.records }
+    ensures { result ≡ good_record (shape_view parts.now.shape) (unit_record (shape_view parts.now.shape) parts.now.bytes.now i) }
 {
-    let a = sh.columns * i;
-    let b = a + sh.columns;
-    let row = &s[a..b];
-    if !in_range(row) {
+    let row = parts.record_bytes(i);
+    let shape = parts.shape;
+    in_range(row) && all_zero(&row[shape.unknowns..shape.unknown_columns])
+}
+
+fn first_record(parts: &Parts) -> Option<usize>
+    ensures { first_record parts.now.bytes.now (shape_view parts.now.shape) ≡ found_of result }
+{
+    (0..parts.shape.records).find(|&i| !good_record(parts, i))
+}
+
+fn first_channel(parts: &Parts) -> Option<usize>
+    ensures { first_channel parts.now.bytes.now (shape_view parts.now.shape) ≡ found_of result }
+{
+    (0..parts.shape.channels).find(|&c| parts.shape.records <= parts.channel(c))
+}
+
+// "a, b" of line k, by its operation.
+fn good_operands(shape: Shape, k: usize, operation: Operation, a: usize, b: usize) -> bool
+    ensures { result ≡ good_operands (shape_view shape) k (code_for (Some operation)) a b }
+{
+    match operation {
+        Operation::Number => true,
+        Operation::Reading => a < shape.channels && b == 0,
+        Operation::Root => a < k && b < shape.unknowns,
+        Operation::Stated => a < k && b < shape.records,
+        Operation::Add
+        | Operation::Subtract
+        | Operation::Multiply
+        | Operation::Divide
+        | Operation::LessThan => a < k && b < k,
+    }
+}
+
+fn good_line(shape: Shape, k: usize, line: Line) -> bool
+    ensures { result ≡ good_line (shape_view shape) k (line_view line) }
+{
+    let Some(operation) = Operation::of(line.code) else {
         return false;
-    }
-    let from = sh.unknowns;
-    let to = sh.unknown_columns;
-    all_zero(&row[from..to])
+    };
+    line.last == 0
+        && good_operands(
+            shape,
+            k,
+            operation,
+            usize::from(line.a),
+            usize::from(line.b),
+        )
 }
 
-fn first_record(s: &[u8], sh: crate::shape::Shape) -> whole::place::Found
-    requires { Laid (shape_view sh) s.now }
-    ensures { first_record s.now (shape_view sh) ≡ found_of result }
+fn first_line(parts: &Parts) -> Option<usize>
+    ensures { first_line parts.now.bytes.now (shape_view parts.now.shape) ≡ found_of result }
 {
-    let mut i = 0;
-    while i < sh.records {
-        if !good_record(s, sh, i) {
-            return whole::place::Found::Place(i);
-        }
-        i += 1;
-    }
-    whole::place::Found::Nowhere
+    (0..parts.shape.lines).find(|&k| !good_line(parts.shape, k, parts.line(k)))
 }
 
-fn first_channel(s: &[u8], sh: crate::shape::Shape) -> whole::place::Found
-    requires { Laid (shape_view sh) s.now }
-    ensures { first_channel s.now (shape_view sh) ≡ found_of result }
+#[tactic(auto, unfolding(sheet_rules::specs::Checks::checked_sheet))]
+/// The sheet, or which check refuses it.
+pub fn check_sheet(s: &[u8]) -> Result<Sheet<'_>, Refusal>
+    ensures checked { checked_sheet s.now ≡ checked_of result }
+    ensures sheet { IfOk result (λ v. (v.parts.bytes.now ≡ s.now) × (shape_view v.parts.shape ≡ shape_of s.now)) }
 {
-    let mut c = 0;
-    while c < sh.channels {
-        if sh.records <= crate::shape::channel_record(s, sh, c) {
-            return whole::place::Found::Place(c);
-        }
-        c += 1;
-    }
-    whole::place::Found::Nowhere
-}
-
-// Two numbers, each below its bound.
-fn both_below(a: usize, m: usize, b: usize, n: usize) -> bool
-    ensures { result ≡ both (ltb a m) (ltb b n) }
-{
-    if a < m {
-        return b < n;
-    }
-    false
-}
-
-// The operands of line k, by its code.
-fn good_operands(sh: crate::shape::Shape, k: usize, code: u8, a: usize, b: usize) -> bool
-    ensures { result ≡ good_operands (shape_view sh) k (code_of code) a b }
-{
-    match code {
-        0 => true,
-        1 => both_below(a, sh.channels, b, 1),
-        2 | 3 | 4 | 5 | 7 => both_below(a, k, b, k),
-        6 => both_below(a, k, b, sh.unknowns),
-        8 => both_below(a, k, b, sh.records),
-        _ => false,
-    }
-}
-
-fn good_line(sh: crate::shape::Shape, k: usize, l: crate::shape::Line) -> bool
-    ensures { result ≡ good_line (shape_view sh) k (line_view l) }
-{
-    if l.last != 0 {
-        return false;
-    }
-    good_operands(sh, k, l.code, l.a as usize, l.b as usize)
-}
-
-fn first_line(s: &[u8], sh: crate::shape::Shape) -> whole::place::Found
-    requires { Laid (shape_view sh) s.now }
-    ensures { first_line s.now (shape_view sh) ≡ found_of result }
-{
-    let from = crate::shape::lines_at(sh);
-    let mut k = 0;
-    while k < sh.lines {
-        let l = crate::shape::line_at(s, from + 4 * k);
-        if !good_line(sh, k, l) {
-            return whole::place::Found::Place(k);
-        }
-        k += 1;
-    }
-    whole::place::Found::Nowhere
-}
-
-// Checks 5, 6 and 7, each where the one before it found nothing.
-fn check_parts(s: &[u8], sh: crate::shape::Shape) -> Checked
-    requires { Laid (shape_view sh) s.now }
-    ensures { first_failing (drop 4 (checks s.now (shape_view sh))) ≡ checked_of result }
-{
-    let wrong_record = first_record(s, sh);
-    match wrong_record {
-        whole::place::Found::Place(i) => Checked::Refused(5, i),
-        whole::place::Found::Nowhere => {
-            let wrong_channel = first_channel(s, sh);
-            match wrong_channel {
-                whole::place::Found::Place(c) => Checked::Refused(6, c),
-                whole::place::Found::Nowhere => {
-                    let wrong_line = first_line(s, sh);
-                    match wrong_line {
-                        whole::place::Found::Place(k) => Checked::Refused(7, k),
-                        whole::place::Found::Nowhere => Checked::WellFormed,
-                    }
-                }
-            }
-        }
-    }
-}
-
-// Which check refuses the sheet, if any.
-pub fn check_sheet(s: &[u8]) -> Checked
-    ensures { checked_sheet s.now ≡ checked_of result }
-{
-    if s.len() < 16 {
-        return Checked::Refused(1, 0);
-    }
-    if 3104 < s.len() {
-        return Checked::Refused(1, 0);
+    if !(16..=3104).contains(&s.len()) {
+        return Err(Refusal::Length);
     }
     if !good_mark(s) {
-        return Checked::Refused(2, 0);
+        return Err(Refusal::Mark);
     }
-    let sh = crate::shape::read_shape(s);
-    if !good_counts(s, sh) {
-        return Checked::Refused(3, 0);
+    let shape = Shape::read(s);
+    if !good_counts(s, shape) {
+        return Err(Refusal::Counts);
     }
-    if !good_distances(s, sh) {
-        return Checked::Refused(4, 0);
+    if !good_distances(s, shape) {
+        return Err(Refusal::Distances);
     }
-    check_parts(s, sh)
+    let parts = Parts { bytes: s, shape };
+    if let Some(i) = first_record(&parts) {
+        return Err(Refusal::Record(i));
+    }
+    if let Some(c) = first_channel(&parts) {
+        return Err(Refusal::Channel(c));
+    }
+    if let Some(k) = first_line(&parts) {
+        return Err(Refusal::Line(k));
+    }
+    Ok(Sheet { parts })
 }

@@ -1,80 +1,78 @@
 // The lines of a well-formed sheet in order, each through the elimination.
-ghost use Rattle.std.specs.Prelude.{◌≡◌, ◌*◌, ◌≤◌, ◌<◌, length};
-ghost use Rattle.row.specs.Table.{start};
-ghost use Rattle.sheet_rules.specs.Formed.{Formed};
-ghost use Rattle.sheet.specs.Views.{shape_view};
-ghost use Rattle.sheet.specs.Working.{Roomy, Stepping, Stepped, Worked};
+ghost use Rattle.std.specs.Prelude.{◌≡◌, ◌+◌, ◌<◌, OnOk};
+ghost use Rattle.elimination.specs.Views.{outcome_of, verdict_of};
+ghost use Rattle.sheet_rules.specs.Work.{line_outcome, solved};
+ghost use Rattle.sheet.specs.Sheets.{shape_in, bytes_in};
+ghost use Rattle.sheet.specs.Working.{Roomy, Stepping};
 
-// Line k: its unit, then its equation through the elimination.
-pub fn line_step(
-    store: &mut [i32],
-    own: &mut [i32],
-    replaced: &mut [i32],
-    q: &mut [i32],
-    sums: &mut [i64],
-    unit: &mut [i32],
-    other: &mut [i32],
-    s: &[u8],
-    sh: crate::shape::Shape,
-    k: usize,
-    rounds: u32,
-    free: u64,
-) -> elimination::equation::Solved
-    requires { Stepping (shape_view sh) s.now k rounds free store.old own.old × Roomy (shape_view sh) own.old replaced.old q.old sums.old unit.old other.old × (k < sh.lines) }
-    ensures { Stepped (shape_view sh) s.now k rounds free own.old result own.new store.new }
-{
-    if !crate::step::unit_into(store, unit, other, s, sh, k) {
-        return elimination::equation::Solved::Wide;
-    }
-    let stated = crate::step::equation_into(store, unit, other, s, sh, k);
-    match stated {
-        crate::step::Stated::Nothing => elimination::equation::Solved::Done(rounds, free),
-        crate::step::Stated::Wide => elimination::equation::Solved::Wide,
-        crate::step::Stated::Ready => elimination::equation::one(
-            own,
-            replaced,
-            q,
-            sums,
-            unit,
-            sh.unknown_columns,
-            sh.unknowns,
-            rounds,
-            free,
-        ),
+use crate::units::Units;
+use elimination::progress::{Progress, Stop, Stopped};
+use elimination::room::Elimination;
+
+/// The work on a sheet, in lent slices.
+#[derive(Drop)]
+pub struct Work<'a> {
+    pub units: Units<'a>,
+    pub elimination: Elimination<'a>,
+    /// A line's unit, then its equation.
+    pub row: &'a mut [i32],
+    /// What is taken from it.
+    pub other: &'a mut [i32],
+    ghost roomy: { Roomy (shape_in units.sheet) elimination row.now other.now },
+}
+
+impl<'a> Work<'a> {
+    /// The work on the sheet of these units, with room for two rows.
+    pub fn new(
+        units: Units<'a>,
+        elimination: Elimination<'a>,
+        row: &'a mut [i32],
+        other: &'a mut [i32],
+    ) -> Work<'a>
+        requires { Roomy (shape_in units.sheet) elimination row.old other.old }
+        ensures { (result.units.sheet ≡ units.entry.sheet) × (result.units.done ≡ units.entry.done) }
+    {
+        Work {
+            units,
+            elimination,
+            row,
+            other,
+        }
     }
 }
 
-// All lines, from the own table at its start.
-pub fn solve_lines(
-    store: &mut [i32],
-    own: &mut [i32],
-    replaced: &mut [i32],
-    q: &mut [i32],
-    sums: &mut [i64],
-    unit: &mut [i32],
-    other: &mut [i32],
-    s: &[u8],
-    sh: crate::shape::Shape,
-) -> elimination::call::Verdict
-    requires { Formed (shape_view sh) s.now × Roomy (shape_view sh) own.old replaced.old q.old sums.old unit.old other.old × (own.old ≡ start sh.columns sh.unknowns) × (sh.columns * sh.lines ≤ length store.old) }
-    ensures { Worked (shape_view sh) s.now result own.new store.new }
-{
-    let mut rounds: u32 = 0;
-    let mut free = whole::word::first(sh.unknowns);
-    let mut k = 0;
-    while k < sh.lines {
-        let r = line_step(
-            store, own, replaced, q, sums, unit, other, s, sh, k, rounds, free,
-        );
-        match r {
-            elimination::equation::Solved::Done(n, f) => {
-                rounds = n;
-                free = f;
-            }
-            elimination::equation::Solved::Clash => return elimination::call::Verdict::Clash(k),
-            elimination::equation::Solved::Wide => return elimination::call::Verdict::Wide(k),
+impl Work<'_> {
+    /// The next line: its unit, then its equation through the elimination.
+    pub fn line(&mut self, done: Progress) -> Result<Progress, Stop>
+        requires { (self.old.units.done < self.old.units.sheet.parts.shape.lines) × Stepping (shape_in self.old.units.sheet) done self.old.elimination.table.now }
+        ensures outcome { line_outcome (shape_in self.old.units.sheet) (bytes_in self.old.units.sheet) self.old.units.done self.old.elimination.table.now done.rounds done.free ≡ outcome_of result self.new.elimination.table.now }
+        ensures done { OnOk result (self.new.units.done ≡ self.old.units.done + 1) }
+        ensures sheet { self.new.units.sheet ≡ self.old.units.sheet }
+    {
+        let k = self.units.done;
+        self.units.next(self.row, self.other)?;
+        if !self.units.equation(k, self.row, self.other)? {
+            return Ok(done);
         }
-        k += 1;
+        self.elimination.one(self.row, done)
     }
-    elimination::call::Verdict::Accepted(rounds, free)
+
+    /// All lines, from the start of the table.
+    pub fn solve(&mut self) -> Result<Progress, Stopped>
+        requires { self.old.units.done ≡ 0 }
+        ensures verdict { solved (shape_in self.old.units.sheet) (bytes_in self.old.units.sheet) ≡ verdict_of result self.new.elimination.table.now }
+        ensures done { OnOk result (self.new.units.done ≡ self.old.units.sheet.parts.shape.lines) }
+        ensures sheet { self.new.units.sheet ≡ self.old.units.sheet }
+    {
+        self.elimination.start();
+        let shape = self.units.sheet.parts.shape;
+        let mut done = Progress {
+            rounds: 0,
+            free: whole::word::first(shape.unknowns),
+        };
+        for k in 0..shape.lines {
+            done = self.line(done).map_err(|why| Stopped { why, at: k })?;
+        }
+        Ok(done)
+    }
 }

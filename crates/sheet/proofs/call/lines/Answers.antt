@@ -1,19 +1,13 @@
 -- `sheet::call::lines` meets its contract.
-use Rattle.std.proofs.Common.{refl, sym, arith}
+use Rattle.std.proofs.Common.{sym}
 use native.Mathlib.Nat.{add-sub_cancel_left}
-use Rattle.sheet.proofs.Calling.{lines_are, formed_long, formed_as}
+use Rattle.sheet.proofs.Calling.{lines_refused, lines_there}
 use Rattle.sheet.proofs.call.lines.Goals as goal
 
-pub read_shape-sh-requires : goal.read_shape-sh-requires
-read_shape-sh-requires c = formed_long _ (rw c.in-WellFormed.is at c.check_sheet-checked.ensures)
+pub returns-in_default : goal.returns-in_default
+returns-in_default c = sym (lines_refused _ (rw c.in_default.is at c.check_sheet.ensures.checked))
 
-pub slice_bounds-result-end-in-WellFormed : goal.slice_bounds-result-end-in-WellFormed
-slice_bounds-result-end-in-WellFormed c =
-    omega (arith, (formed_as c.args.s.now (rw c.in-WellFormed.is at c.check_sheet-checked.ensures) c.read_shape-sh.ensures).laid)
-
-pub returns-in-Refused : goal.returns-in-Refused
-returns-in-Refused c = sym (lines_are _ (rw c.in-Refused.is at c.check_sheet-checked.ensures) refl)
-
-pub returns-in-WellFormed : goal.returns-in-WellFormed
-returns-in-WellFormed c =
-    rw (add-sub_cancel_left, c.lines_at-from.ensures) (sym (lines_are _ (rw c.in-WellFormed.is at c.check_sheet-checked.ensures) c.read_shape-sh.ensures))
+pub returns : goal.returns
+returns c =
+    let e = c.in-Ok.ensures in
+    rw (add-sub_cancel_left, c.lines_at-from.ensures) (sym (lines_there _ e.checked e.sheet.1))

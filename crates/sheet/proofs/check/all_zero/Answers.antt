@@ -1,22 +1,12 @@
--- `sheet::check::all_zero` meets its contract. The loop's invariant: what is left to judge is all from i on.
-use Rattle.std.proofs.Common.{sym, ◌∙◌, arith, eq-eqb, ne_eqb}
-use Rattle.whole.specs.Bytes.{signed}
-use Rattle.row.specs.Row.{is_zero}
-use Rattle.row.proofs.Loops.{scan_more, scan_stop, scan_end}
-use Rattle.sheet.proofs.Exponents.{all_map, signed_zero}
+-- `sheet::check::all_zero` meets its contract.
+use Rattle.std.proofs.Common.{rules, ◌∙◌, arith, eqb}
+use Rattle.std.proofs.lemmas.Iterator.{YieldsList-from_slice}
+use Rattle.std.proofs.lemmas.Iterator.Search.{all_from_yields_List}
+use borrow.Author.Tests.{tests}
+use Rattle.sheet.proofs.Exponents.{zeros}
 use Rattle.sheet.proofs.check.all_zero.Goals as goal
-
-pub loop-i-init : goal.loop-i-init
-loop-i-init c = (omega arith, all_map signed is_zero c.args.bytes.now)
-
-pub returns-then-bytes-i-ne0 : goal.returns-then-bytes-i-ne0
-returns-then-bytes-i-ne0 c =
-    sym (c.loop-i.invariant.1 ∙ scan_stop _ 0 c.args.bytes.now c.loop-i.i (omega arith) (signed_zero _ (omega arith) ∙ ne_eqb _ 0 c.if-bytes-i-ne0.true))
-
-pub loop-i-preserved : goal.loop-i-preserved
-loop-i-preserved c =
-    (omega arith, c.loop-i.invariant.1 ∙ scan_more _ 0 c.args.bytes.now c.loop-i.i (omega arith) (signed_zero _ (omega arith) ∙ eq-eqb _ 0 c.if-bytes-i-ne0.false))
 
 pub returns : goal.returns
 returns c =
-    sym (c.loop-i.invariant.1 ∙ scan_end _ 0 c.args.bytes.now c.loop-i.i (omega arith))
+    all_from_yields_List (λ b. eqb b 0) _ _ _ c.all.ensures.ran (YieldsList-from_slice c.args.bytes.now cc) (λ x b q k. search (rules, tests))
+    ∙ zeros c.args.bytes.now (λ i. omega (arith, c.type_inv.bytes i))

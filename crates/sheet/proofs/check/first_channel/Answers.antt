@@ -1,15 +1,18 @@
 -- `sheet::check::first_channel` meets its contract.
-use Rattle.std.proofs.Common.{lt-ltb, le-ltb}
-use Rattle.sheet.proofs.Lowest.{looked_more, looked_stop, looked_all}
+use Rattle.std.proofs.Common.{rules, refl, not}
+use Rattle.std.proofs.lemmas.Iterator.{YieldsList-from_range}
+use Rattle.std.proofs.lemmas.Iterator.Search.{find_from_yields_List}
+use borrow.Author.Tests.{tests}
+use native.Mathlib.Nat.{sub-zero}
+use Rattle.sheet_rules.specs.Shape.{channel}
+use Rattle.sheet_rules.specs.Good.{good_channel}
+use Rattle.sheet.specs.Views.{shape_view}
+use Rattle.sheet.proofs.Lowest.{found}
 use Rattle.sheet.proofs.check.first_channel.Goals as goal
 
-pub returns-then-sh-channel_record : goal.returns-then-sh-channel_record
-returns-then-sh-channel_record c =
-    looked_stop c.loop-c.invariant c.loop-c-test.true (rw c.channel_record.ensures at (le-ltb _ _ c.if-sh-channel_record.true))
-
-pub loop-c-preserved : goal.loop-c-preserved
-loop-c-preserved c =
-    looked_more c.loop-c.invariant c.loop-c-test.true (rw c.channel_record.ensures at (lt-ltb _ _ c.if-sh-channel_record.false))
-
 pub returns : goal.returns
-returns c = looked_all c.loop-c.invariant c.loop-c-test.false
+returns c =
+    let sh = shape_view c.args.parts.now.shape in
+    found (λ i. good_channel sh (channel sh c.args.parts.now.bytes.now i)) sh.channels c.find.result
+    (find_from_yields_List (λ i. not (good_channel sh (channel sh c.args.parts.now.bytes.now i))) _ _ c.find.result c.find.ensures.ran
+    (YieldsList-from_range 0 sh.channels sh.channels refl (sub-zero _)) (λ x b q k. search (rules, tests)))

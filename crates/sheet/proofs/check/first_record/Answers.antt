@@ -1,15 +1,18 @@
 -- `sheet::check::first_record` meets its contract.
-use Rattle.sheet.proofs.Tests.{refuted, upheld}
-use Rattle.sheet.proofs.Lowest.{looked_more, looked_stop, looked_all}
+use Rattle.std.proofs.Common.{rules, refl, not}
+use Rattle.std.proofs.lemmas.Iterator.{YieldsList-from_range}
+use Rattle.std.proofs.lemmas.Iterator.Search.{find_from_yields_List}
+use borrow.Author.Tests.{tests}
+use native.Mathlib.Nat.{sub-zero}
+use Rattle.sheet_rules.specs.Shape.{unit_record}
+use Rattle.sheet_rules.specs.Good.{good_record}
+use Rattle.sheet.specs.Views.{shape_view}
+use Rattle.sheet.proofs.Lowest.{found}
 use Rattle.sheet.proofs.check.first_record.Goals as goal
 
-pub returns-then-not-good_record : goal.returns-then-not-good_record
-returns-then-not-good_record c =
-    looked_stop c.loop-i.invariant c.loop-i-test.true (refuted c.good_record.ensures c.if-not-good_record.true)
-
-pub loop-i-preserved : goal.loop-i-preserved
-loop-i-preserved c =
-    looked_more c.loop-i.invariant c.loop-i-test.true (upheld c.good_record.ensures c.if-not-good_record.false)
-
 pub returns : goal.returns
-returns c = looked_all c.loop-i.invariant c.loop-i-test.false
+returns c =
+    let sh = shape_view c.args.parts.now.shape in
+    found (λ i. good_record sh (unit_record sh c.args.parts.now.bytes.now i)) sh.records c.find.result
+    (find_from_yields_List (λ i. not (good_record sh (unit_record sh c.args.parts.now.bytes.now i))) _ _ c.find.result c.find.ensures.ran
+    (YieldsList-from_range 0 sh.records sh.records refl (sub-zero _)) (λ x b q k. search (rules, tests)))

@@ -1,0 +1,107 @@
+// The units of a sheet's lines, as rows.
+ghost use Rattle.std.specs.Prelude.{◌≡◌, map, ◌+◌, ◌<◌, length, OnOk};
+ghost use Rattle.row.specs.Judged.{judged, judged_of};
+ghost use Rattle.sheet_rules.specs.Lines.{units, unit_at, equations_at};
+ghost use Rattle.sheet.specs.Sheets.{shape_in, bytes_in};
+ghost use Rattle.sheet.specs.Sources.{source_row, sum_row};
+ghost use Rattle.sheet.specs.Steps.{stated_of};
+ghost use Rattle.sheet.specs.Store.{Stored, Sourced, Summed};
+
+use crate::line::{Source, Sum};
+use crate::parts::Sheet;
+use whole::number::PastLimit;
+
+/// The units of a sheet's first lines. Only `read` and `give` know how they are stored.
+#[derive(Drop)]
+pub struct Units<'a> {
+    pub sheet: Sheet<'a>,
+    pub store: &'a mut [i32],
+    pub done: usize,
+    ghost stored: { Stored (shape_in sheet) (bytes_in sheet) done store.now },
+}
+
+impl Units<'_> {
+    /// The unit of line i.
+    pub fn read(&self, i: usize, out: &mut [i32])
+        requires { (i < self.now.done) × (length out.old ≡ self.now.sheet.parts.shape.columns) }
+        ensures { out.new ≡ unit_at (shape_in self.now.sheet) (bytes_in self.now.sheet) i }
+    {
+        let columns = self.sheet.parts.shape.columns;
+        let from = columns * i;
+        row::change::copy(&self.store[from..from + columns], out);
+    }
+
+    /// The unit of the next line.
+    pub fn give(&mut self, unit: &[i32])
+        requires { (self.old.done < self.old.sheet.parts.shape.lines) × (length unit.now ≡ self.old.sheet.parts.shape.columns) × (unit.now ≡ unit_at (shape_in self.old.sheet) (bytes_in self.old.sheet) self.old.done) }
+        ensures done { self.new.done ≡ self.old.done + 1 }
+        ensures sheet { self.new.sheet ≡ self.old.sheet }
+    {
+        let columns = self.sheet.parts.shape.columns;
+        let from = columns * self.done;
+        row::change::copy(unit, &mut self.store[from..from + columns]);
+        self.done += 1;
+    }
+
+    /// The row of a source.
+    pub fn load(&self, source: Source, out: &mut [i32])
+        requires { Sourced (shape_in self.now.sheet) self.now.done source × (length out.old ≡ self.now.sheet.parts.shape.columns) }
+        ensures { out.new ≡ source_row (shape_in self.now.sheet) (bytes_in self.now.sheet) (units (shape_in self.now.sheet) (bytes_in self.now.sheet) self.now.done) source }
+    {
+        match source {
+            Source::Nothing => row::change::clear(out),
+            Source::Line(i) => self.read(i, out),
+            Source::Channel(c) => self.sheet.parts.record(self.sheet.parts.channel(c), out),
+            Source::Record(i) => self.sheet.parts.record(i, out),
+            Source::Unknown(j) => row::change::itself(out, j),
+        }
+    }
+
+    /// The row of a sum.
+    pub fn work_out(&self, sum: Sum, out: &mut [i32], other: &mut [i32]) -> Result<(), PastLimit>
+        requires { Summed (shape_in self.now.sheet) self.now.done sum × (length out.old ≡ self.now.sheet.parts.shape.columns) × (length other.old ≡ self.now.sheet.parts.shape.columns) }
+        ensures { judged (sum_row (shape_in self.now.sheet) (bytes_in self.now.sheet) (units (shape_in self.now.sheet) (bytes_in self.now.sheet) self.now.done) sum) ≡ judged_of result out.new }
+    {
+        match sum {
+            Sum::Alone(first) => {
+                self.load(first, out);
+                if row::test::all_in_limit(out) {
+                    Ok(())
+                } else {
+                    Err(PastLimit)
+                }
+            }
+            Sum::Less(first, times, second) => {
+                self.load(first, out);
+                self.load(second, other);
+                row::change::less(out, other, times)
+            }
+        }
+    }
+
+    /// The unit of the next line, worked out and stored.
+    pub fn next(&mut self, unit: &mut [i32], other: &mut [i32]) -> Result<(), PastLimit>
+        requires { (self.old.done < self.old.sheet.parts.shape.lines) × (length unit.old ≡ self.old.sheet.parts.shape.columns) × (length other.old ≡ self.old.sheet.parts.shape.columns) }
+        ensures judged { judged (unit_at (shape_in self.old.sheet) (bytes_in self.old.sheet) self.old.done) ≡ judged_of result unit.new }
+        ensures done { OnOk result (self.new.done ≡ self.old.done + 1) }
+        ensures sheet { self.new.sheet ≡ self.old.sheet }
+    {
+        let parts = self.sheet.parts;
+        let line = parts.line(self.done);
+        self.work_out(line.unit(), unit, other)?;
+        self.give(unit);
+        Ok(())
+    }
+
+    /// The equation of line k, if it has one.
+    pub fn equation(&self, k: usize, e: &mut [i32], other: &mut [i32]) -> Result<bool, PastLimit>
+        requires { (k < self.now.done) × (length e.old ≡ self.now.sheet.parts.shape.columns) × (length other.old ≡ self.now.sheet.parts.shape.columns) }
+        ensures { map judged (equations_at (shape_in self.now.sheet) (bytes_in self.now.sheet) k) ≡ stated_of result e.new }
+    {
+        let Some(sum) = self.sheet.parts.line(k).equation() else {
+            return Ok(false);
+        };
+        self.work_out(sum, e, other)?;
+        Ok(true)
+    }
+}
