@@ -23,7 +23,7 @@ impl Elimination<'_> {
         ensures { on_verdict table.old (verdict_of verdict self.now.table.now) ≡ answer_of stopped_number stopped_place result table.new }
     {
         let done = verdict?;
-        row::change::copy(self.table, table);
+        self.write_table(table);
         Ok(done)
     }
 
