@@ -1,5 +1,5 @@
 -- Laws of the calls: what each answers, by how the checks went.
-use Rattle.std.proofs.Common.{◌≡◌, refl, true, false, List, [], ℕ, suc, ◌*◌, ◌≤◌, ◌<◌, leb, ltb, ℤ, length, take, drop, arith}
+use Rattle.std.proofs.Common.{◌≡◌, true, false, List, [], ℕ, suc, ◌*◌, ◌≤◌, ◌<◌, leb, ltb, ℤ, length, take, drop, arith}
 use Rattle.std.proofs.lemmas.Bool.{leb-false, le-leb, lt-leb, lt-ltb, le-ltb, ltb-true}
 use Rattle.elimination_rules.specs.Answer.{refuses}
 use Rattle.sheet_rules.specs.Shape.{Shape, shape_of, lines_at}

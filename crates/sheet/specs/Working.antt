@@ -1,5 +1,5 @@
 -- What the work on a sheet asks of its room, and of its state.
-use Rattle.std.specs.Prelude.{◌≡◌, List, ℕ, ◌+◌, ◌*◌, ◌≤◌, ℤ, length}
+use Rattle.std.specs.Prelude.{◌≡◌, List, ◌+◌, ◌*◌, ◌≤◌, ℤ, length}
 use Rattle.whole.specs.Word.{count}
 use Rattle.elimination_rules.specs.Call.{fuel}
 use Rattle.elimination_rules.specs.General.{Kept}

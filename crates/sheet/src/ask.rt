@@ -4,11 +4,9 @@ ghost use Rattle.row.specs.Row.{all_in_limit};
 ghost use Rattle.row.specs.Judged.{judged, judged_of};
 ghost use Rattle.row.specs.Table.{replaced};
 ghost use Rattle.elimination.specs.Heard.{answer_of};
-ghost use Rattle.sheet_rules.specs.Lines.{units};
 ghost use Rattle.sheet_rules.specs.Work.{solved};
 ghost use Rattle.sheet.specs.Views.{shape_view};
-ghost use Rattle.sheet.specs.Sheets.{shape_in, bytes_in};
-ghost use Rattle.sheet.specs.Sources.{source_row};
+ghost use Rattle.sheet.specs.Sheets.{shape_in, bytes_in, source_in};
 ghost use Rattle.sheet.specs.Store.{Sourced};
 ghost use Rattle.sheet.specs.Refusals.{number_of, place_of};
 ghost use Rattle.sheet.specs.Asked.{is_there, room_for, answer_on};
@@ -56,8 +54,9 @@ impl Work<'_> {
     /// The row of a source with the final table put in, in the room of the equation.
     fn put_in(&mut self, source: Source) -> Result<(), PastLimit>
         requires there { Sourced (shape_in self.old.units.sheet) self.old.units.done source }
-        requires in_limit { (all_in_limit self.old.elimination.table.now ≡ true) × (all_in_limit (source_row (shape_in self.old.units.sheet) (bytes_in self.old.units.sheet) (units (shape_in self.old.units.sheet) (bytes_in self.old.units.sheet) self.old.units.done) source) ≡ true) }
-        ensures judged { judged (replaced self.old.elimination.unknown_columns self.old.elimination.unknowns self.old.elimination.table.now (source_row (shape_in self.old.units.sheet) (bytes_in self.old.units.sheet) (units (shape_in self.old.units.sheet) (bytes_in self.old.units.sheet) self.old.units.done) source)) ≡ judged_of result self.new.elimination.equation.now }
+        requires row { all_in_limit (source_in self.old.units.sheet self.old.units.done source) ≡ true }
+        requires table { all_in_limit self.old.elimination.table.now ≡ true }
+        ensures judged { judged (replaced self.old.elimination.unknown_columns self.old.elimination.unknowns self.old.elimination.table.now (source_in self.old.units.sheet self.old.units.done source)) ≡ judged_of result self.new.elimination.equation.now }
         ensures sheet { self.new.units.sheet ≡ self.old.units.sheet }
     {
         self.units.load(source, self.row);

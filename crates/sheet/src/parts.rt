@@ -23,8 +23,8 @@ pub struct Sheet<'a> {
     ghost formed: { Formed (shape_view parts.shape) parts.bytes.now },
 }
 
-// The exponents that bytes hold.
-fn exponents(bytes: &[u8], out: &mut [i32])
+/// The exponents that bytes hold.
+pub fn exponents(bytes: &[u8], out: &mut [i32])
     requires { length out.old ≡ length bytes.now }
     ensures { out.new ≡ map signed bytes.now }
 {

@@ -1,9 +1,8 @@
 // The units of a sheet's lines, as rows.
 ghost use Rattle.std.specs.Prelude.{◌≡◌, map, ◌+◌, ◌<◌, length, OnOk};
 ghost use Rattle.row.specs.Judged.{judged, judged_of};
-ghost use Rattle.sheet_rules.specs.Lines.{units, unit_at, equations_at};
-ghost use Rattle.sheet.specs.Sheets.{shape_in, bytes_in};
-ghost use Rattle.sheet.specs.Sources.{source_row, sum_row};
+ghost use Rattle.sheet_rules.specs.Lines.{unit_at, equations_at};
+ghost use Rattle.sheet.specs.Sheets.{shape_in, bytes_in, source_in, sum_in};
 ghost use Rattle.sheet.specs.Steps.{stated_of};
 ghost use Rattle.sheet.specs.Store.{Stored, Sourced, Summed};
 
@@ -46,7 +45,7 @@ impl Units<'_> {
     /// The row of a source.
     pub fn load(&self, source: Source, out: &mut [i32])
         requires { Sourced (shape_in self.now.sheet) self.now.done source × (length out.old ≡ self.now.sheet.parts.shape.columns) }
-        ensures { out.new ≡ source_row (shape_in self.now.sheet) (bytes_in self.now.sheet) (units (shape_in self.now.sheet) (bytes_in self.now.sheet) self.now.done) source }
+        ensures { out.new ≡ source_in self.now.sheet self.now.done source }
     {
         match source {
             Source::Nothing => row::change::clear(out),
@@ -60,7 +59,7 @@ impl Units<'_> {
     /// The row of a sum.
     pub fn work_out(&self, sum: Sum, out: &mut [i32], other: &mut [i32]) -> Result<(), PastLimit>
         requires { Summed (shape_in self.now.sheet) self.now.done sum × (length out.old ≡ self.now.sheet.parts.shape.columns) × (length other.old ≡ self.now.sheet.parts.shape.columns) }
-        ensures { judged (sum_row (shape_in self.now.sheet) (bytes_in self.now.sheet) (units (shape_in self.now.sheet) (bytes_in self.now.sheet) self.now.done) sum) ≡ judged_of result out.new }
+        ensures { judged (sum_in self.now.sheet self.now.done sum) ≡ judged_of result out.new }
     {
         match sum {
             Sum::Alone(first) => {

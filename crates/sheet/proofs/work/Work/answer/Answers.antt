@@ -9,13 +9,18 @@ use Rattle.sheet.proofs.Questions.{Sought, sought_in_limit, sought_answer, said_
 use Rattle.sheet.proofs.work.Work.answer.Goals.{in-Line, in-Channel}
 use Rattle.sheet.proofs.work.Work.answer.Goals as goal
 
-pub put_in-requires-clause-in_limit : goal.put_in-requires-clause-in_limit
-put_in-requires-clause-in_limit c =
+pub put_in-requires-clause-row : goal.put_in-requires-clause-row
+put_in-requires-clause-row c =
     let sheet = c.args.self.now.units.sheet in
     let p = c.match-question.source in
     let n = rw c.in_ok-done.was at c.solve.ensures in
     let o : Sought (shape_in sheet) c.args.question p.0 p.1 = elim c.match-question.branch [ in-Line w ↦ rw (w.in-Line.is, w.source-is) (refl, refl) | in-Channel w ↦ rw (w.in-Channel.is, w.source-is) (refl, ap (λ z. (shape_in z).lines) n.sheet) ] in
-    ((solved_kept _ _ sheet.formed n.verdict).kept.limit, rw (n.done, n.sheet) (sought_in_limit sheet.formed n.verdict c.args.question p.0 p.1 o c.requires.1))
+    rw (n.done, n.sheet) (sought_in_limit sheet.formed n.verdict c.args.question p.0 p.1 o c.requires.1)
+
+pub put_in-requires-clause-table : goal.put_in-requires-clause-table
+put_in-requires-clause-table c =
+    let n = rw c.in_ok-done.was at c.solve.ensures in
+    (solved_kept _ _ c.args.self.now.units.sheet.formed n.verdict).kept.limit
 
 pub returns-in_err-map_err : goal.returns-in_err-map_err
 returns-in_err-map_err c =
