@@ -19,7 +19,7 @@ pub struct BenchAnswer {
     pub free: u64,
 }
 
-impl<R: Refuses + Copy> From<Result<Progress, R>> for BenchAnswer {
+impl<R: Refuses> From<Result<Progress, R>> for BenchAnswer {
     ghost from_gives = { λ answer told. (t : List ℤ) → answer_of R.number R.place answer t ≡ spoken_of told t };
 
     fn from(answer: Result<Progress, R>) -> BenchAnswer {

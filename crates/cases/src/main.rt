@@ -25,7 +25,7 @@ fn all(rt: &impl Print, input: &mut impl Read, alloc: Global) -> Result<(), Stop
     Ok(())
 }
 
-// Says why standard input is no pack.
+// The answers; where standard input is no pack, why it is none.
 fn main(rt: HostRuntime) -> io::Result<()> {
     match all(&rt, &mut rt.reader(), rt.alloc()) {
         Ok(()) => Ok(()),

@@ -27,14 +27,14 @@ abbrev pub refusal_at : S.Stop → ℕ → R.Refusal
 refusal_at S.TheVariants.Clash i = R.TheVariants.Clash i
 refusal_at S.TheVariants.Wide i = R.TheVariants.Wide i
 
-abbrev pub refusal_of : Stopped → R.Refusal
-refusal_of s = refusal_at s.why s.at
+abbrev pub stopped_as : Stopped → R.Refusal
+stopped_as s = refusal_at s.why s.at
 
 abbrev pub stopped_number : Stopped → ℕ
-stopped_number s = number_of (refusal_of s)
+stopped_number s = number_of (stopped_as s)
 
 abbrev pub stopped_place : Stopped → ℕ
-stopped_place s = place_of (refusal_of s)
+stopped_place s = place_of (stopped_as s)
 
 -- A refusal's number is never 0.
 pub number_some : (r : R.Refusal) → 0 < number_of r

@@ -3,7 +3,7 @@ ghost use Rattle.std.specs.Prelude.{◌≡◌, ◌*◌, ◌≤◌, length};
 ghost use Rattle.whole.specs.Division.{quotient};
 ghost use Rattle.elimination_rules.specs.Equation.{eliminate as rule_eliminate};
 ghost use Rattle.elimination_rules.specs.Call.{fuel, on_verdict, eliminated};
-ghost use Rattle.elimination.specs.Room.{Lined};
+ghost use Rattle.elimination.specs.Room.{Lined, SameRoom};
 ghost use Rattle.elimination.specs.Refusals.{number_of, place_of, stopped_number, stopped_place};
 ghost use Rattle.elimination.specs.Views.{verdict_of};
 ghost use Rattle.elimination.specs.Heard.{answer_of};
@@ -12,28 +12,29 @@ use crate::progress::{Progress, Stopped};
 use crate::refusal::Refusal;
 use crate::room::Elimination;
 
-impl Elimination<'_> {
-    /// The front of the caller's table takes the rows, where they are accepted.
-    pub fn publish(
-        &self,
-        verdict: Result<Progress, Stopped>,
-        table: &mut [i32],
-    ) -> Result<Progress, Stopped>
-        requires { length self.now.table.now ≤ length table.old }
-        ensures { on_verdict table.old (verdict_of verdict self.now.table.now) ≡ answer_of stopped_number stopped_place result table.new }
-    {
-        let done = verdict?;
-        self.write_table(table);
-        Ok(done)
-    }
+/// The front of the caller's table takes the rows of the own table, where they are accepted.
+pub fn publish(
+    verdict: Result<Progress, Stopped>,
+    own: &[i32],
+    table: &mut [i32],
+) -> Result<Progress, Stopped>
+    requires { length own.now ≤ length table.old }
+    ensures { on_verdict table.old (verdict_of verdict own.now) ≡ answer_of stopped_number stopped_place result table.new }
+{
+    let done = verdict?;
+    row::change::copy(own, table);
+    Ok(done)
+}
 
+impl Elimination<'_> {
     /// The equations in order, and the caller's table written where they are accepted.
     pub fn work(&mut self, es: &[i32], count: usize, table: &mut [i32]) -> Result<Progress, Stopped>
         requires { Lined self.old es.now count × (self.old.unknowns * length self.old.equation.now ≤ length table.old) }
-        ensures { on_verdict table.old (rule_eliminate quotient fuel self.old.unknown_columns self.old.unknowns (length self.old.equation.now) count es.now) ≡ answer_of stopped_number stopped_place result table.new }
+        ensures answer { on_verdict table.old (rule_eliminate quotient fuel self.old.unknown_columns self.old.unknowns (length self.old.equation.now) count es.now) ≡ answer_of stopped_number stopped_place result table.new }
+        ensures room { SameRoom self.old self.new }
     {
         let verdict = self.each(es, count);
-        self.publish(verdict, table)
+        publish(verdict, self.table, table)
     }
 }
 

@@ -16,10 +16,11 @@ use crate::round::Turned;
 use whole::number::PastLimit;
 
 impl Elimination<'_> {
-    /// "and repeat with what remains": the smallest unknown's size falls at each call.
+    /// The rounds of the equation, "and repeat with what remains": the smallest unknown's size falls at each call.
     pub fn solve(&mut self, done: Progress) -> Result<Progress, Stop>
         requires { Ready self.old × Countable self.old.unknown_columns done.rounds self.old.equation.now }
         ensures solved { (n : ℕ) → smallest_size self.old.unknown_columns self.old.equation.now < n → rule_solve quotient n self.old.unknown_columns self.old.unknowns self.old.table.now self.old.equation.now done.rounds done.free ≡ outcome_of result self.new.table.now }
+        ensures sums { self.new.sums.now ≡ self.old.sums.now }
         ensures room { SameRoom self.old self.new }
     {
         match self.round(done.free)? {
@@ -40,7 +41,7 @@ impl Elimination<'_> {
         crate::table::start(self.table, w, v);
     }
 
-    /// The equation becomes e with each unknown replaced by its row.
+    /// The equation becomes e with each unknown replaced by its row, up to the first number past the limit.
     pub fn replace(&mut self, e: &[i32]) -> Result<(), PastLimit>
         requires { Replaceable self.old.unknown_columns self.old.unknowns self.old.table.now e.now self.old.sums.now self.old.equation.now }
         ensures judged { judged (replaced self.old.unknown_columns self.old.unknowns self.old.table.now e.now) ≡ judged_of result self.new.equation.now }

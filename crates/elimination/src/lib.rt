@@ -9,4 +9,3 @@ pub mod refusal;
 pub mod room;
 pub mod round;
 pub mod table;
-pub mod written;

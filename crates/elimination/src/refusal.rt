@@ -1,13 +1,13 @@
 // What the caller hears where the work is refused.
 ghost use Rattle.std.specs.Prelude.{◌≡◌, ℕ, ◌<◌};
-ghost use Rattle.elimination.specs.Refusals.{number_of, place_of, number_some, told_apart as refusals_apart, refusal_of};
+ghost use Rattle.elimination.specs.Refusals.{number_of, place_of, number_some, told_apart as refusals_apart, stopped_as};
 
 use crate::progress::{Stop, Stopped};
 use std::error::Error;
 use std::fmt;
 
 /// What every refusal has: document 01's number of it, which is never 0, and a place.
-pub trait Refuses {
+pub trait Refuses: Copy {
     ghost number: { Self → ℕ };
 
     ghost place: { Self → ℕ };
@@ -70,7 +70,7 @@ impl Refuses for Refusal {
 }
 
 impl From<Stopped> for Refusal {
-    ghost from_gives = { λ stopped refusal. refusal ≡ refusal_of stopped };
+    ghost from_gives = { λ stopped refusal. refusal ≡ stopped_as stopped };
 
     fn from(stopped: Stopped) -> Refusal {
         match stopped.why {
@@ -83,10 +83,10 @@ impl From<Stopped> for Refusal {
 impl fmt::Display for Refusal {
     fn fmt<W: fmt::Write>(&self, f: &mut fmt::Formatter<W>) -> fmt::Result {
         match self {
-            Refusal::TooManyUnknowns => write!(f, "more than 24 unknowns"),
-            Refusal::UnevenLength => write!(f, "the length is not a multiple of 32"),
+            Refusal::TooManyUnknowns => f.write_str("more than 24 unknowns"),
+            Refusal::UnevenLength => f.write_str("the length is not a multiple of 32"),
             Refusal::UnusedColumn(i) => write!(f, "equation {i} is nonzero in an unused column"),
-            Refusal::TableTooShort => write!(f, "the lent table is too short"),
+            Refusal::TableTooShort => f.write_str("the lent table is too short"),
             Refusal::Wide(i) => write!(f, "equation {i} passes the limit"),
             Refusal::Clash(i) => write!(f, "equation {i} clashes"),
         }

@@ -1,5 +1,5 @@
 // The room that the work is done in.
-ghost use Rattle.std.specs.Prelude.{◌≡◌, ◌*◌, ◌≤◌, length};
+ghost use Rattle.std.specs.Prelude.{◌≡◌, ◌++◌, ◌*◌, ◌≤◌, length, drop};
 
 /// The work on equations, in lent slices.
 #[derive(Drop)]
@@ -14,10 +14,28 @@ pub struct Elimination<'a> {
     pub sums: &'a mut [i64],
     /// How many columns are unknowns', used or not.
     pub unknown_columns: usize,
-    /// V.
+    /// How many unknowns are in use: V.
     pub unknowns: usize,
     ghost columns: { unknown_columns ≤ length equation.now },
     ghost word: { unknown_columns ≤ 64 },
     ghost rows: { length table.now ≡ unknowns * length equation.now },
     ghost quotients_room: { length quotients.now ≡ length equation.now },
+}
+
+impl Elimination<'_> {
+    /// The front of `to` becomes the table; the rest stays.
+    pub fn write_table(&self, to: &mut [i32])
+        requires { length self.now.table.now ≤ length to.old }
+        ensures { to.new ≡ self.now.table.now ++ drop (length self.now.table.now) to.old }
+    {
+        row::change::copy(self.table, to);
+    }
+
+    /// The front of `to` becomes what remains of the equation; the rest stays.
+    pub fn write_equation(&self, to: &mut [i32])
+        requires { length self.now.equation.now ≤ length to.old }
+        ensures { to.new ≡ self.now.equation.now ++ drop (length self.now.equation.now) to.old }
+    {
+        row::change::copy(self.equation, to);
+    }
 }

@@ -60,6 +60,7 @@ impl Elimination<'_> {
         requires { (all_in_limit self.old.equation.now ≡ true) × PickedColumn (length self.old.equation.now) j self.old.equation.now }
         ensures divided { Divided (upright_row self.old.equation.now j) j result self.new.equation.now self.new.quotients.now }
         ensures table { self.new.table.now ≡ self.old.table.now }
+        ensures sums { self.new.sums.now ≡ self.old.sums.now }
         ensures room { SameRoom self.old self.new }
     {
         upright(self.equation, j);
@@ -73,6 +74,7 @@ impl Elimination<'_> {
         requires { (all_in_limit self.old.table.now ≡ true) × (j < length self.old.quotients.now) }
         ensures judged { judged (swaps self.old.unknowns j self.old.quotients.now self.old.table.now) ≡ judged_of result self.new.table.now }
         ensures equation { self.new.equation.now ≡ self.old.equation.now }
+        ensures sums { self.new.sums.now ≡ self.old.sums.now }
         ensures room { SameRoom self.old self.new }
     {
         crate::table::swap_rows(self.table, self.quotients, j, self.unknowns)
@@ -82,6 +84,7 @@ impl Elimination<'_> {
     pub fn turn(&mut self, free: u64, j: usize) -> Result<Turned, Stop>
         requires { Ready self.old × PickedColumn self.old.unknown_columns j self.old.equation.now }
         ensures turned { rule_turn quotient self.old.unknown_columns self.old.unknowns self.old.table.now (upright_row self.old.equation.now j) free j ≡ turn_of result self.new.table.now self.new.equation.now }
+        ensures sums { self.new.sums.now ≡ self.old.sums.now }
         ensures room { SameRoom self.old self.new }
     {
         let p = self.divide_by(j);
@@ -102,6 +105,7 @@ impl Elimination<'_> {
     pub fn round(&mut self, free: u64) -> Result<Turned, Stop>
         requires { Ready self.old }
         ensures turned { rule_round quotient self.old.unknown_columns self.old.unknowns self.old.table.now self.old.equation.now free ≡ turn_of result self.new.table.now self.new.equation.now }
+        ensures sums { self.new.sums.now ≡ self.old.sums.now }
         ensures room { SameRoom self.old self.new }
     {
         match self.smallest() {

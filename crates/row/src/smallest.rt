@@ -14,13 +14,13 @@ pub struct Picked {
 pub fn better(best: Option<Picked>, i: usize, x: i32) -> Option<Picked>
     ensures { pick_of result ≡ better_pick i (nat_abs x) (pick_of best) }
 {
-    let a = x.unsigned_abs();
-    if a == 0 {
+    let size = x.unsigned_abs();
+    if size == 0 {
         return best;
     }
     match best {
-        Some(b) if b.size <= a => best,
-        _ => Some(Picked { column: i, size: a }),
+        Some(b) if b.size <= size => best,
+        _ => Some(Picked { column: i, size }),
     }
 }
 

@@ -1,6 +1,6 @@
 -- `elimination::call::eliminate` meets its contract.
 use Rattle.std.proofs.Common.{◌∙◌}
-use Rattle.elimination.specs.Refusals.{refusal_of}
+use Rattle.elimination.specs.Refusals.{stopped_as}
 use Rattle.elimination.proofs.Courses.{refuses_unknowns, refuses_length, refuses_column, refuses_room, is_worked, said_refused}
 use Rattle.elimination.proofs.call.eliminate.Goals as goal
 
@@ -19,7 +19,7 @@ returns-then-table-v c = refuses_room _ _ _ c.if-v-gt24.false c.if-numbers-ne0.f
 pub returns-in_err-owner : goal.returns-in_err-owner
 returns-in_err-owner c =
     is_worked _ _ _ c.if-v-gt24.false c.if-numbers-ne0.false (rw c.in_default.is at c.first_used.ensures) c.if-table-v.false
-    ∙ rw c.in_err-owner.was at c.owner.ensures ∙ said_refused (refusal_of c.in_err-owner.field-0.0) c.from_residual.result _ c.from_residual.ensures.1
+    ∙ rw c.in_err-owner.was at c.owner.ensures ∙ said_refused (stopped_as c.in_err-owner.field-0.0) c.from_residual.result _ c.from_residual.ensures.1
 
 pub returns : goal.returns
 returns c =
