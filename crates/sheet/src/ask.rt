@@ -1,9 +1,10 @@
 // What is asked of a sheet, and its answer.
-ghost use Rattle.std.specs.Prelude.{◌≡◌, true, ◌*◌, ◌≤◌, ◌<◌, length};
+ghost use Rattle.std.specs.Prelude.{◌≡◌, true, ◌*◌, ◌≤◌, ◌<◌, length, OnOk};
 ghost use Rattle.row.specs.Row.{all_in_limit};
 ghost use Rattle.row.specs.Judged.{judged, judged_of};
 ghost use Rattle.row.specs.Table.{replaced};
 ghost use Rattle.elimination.specs.Heard.{answer_of};
+ghost use Rattle.elimination.specs.Views.{verdict_of};
 ghost use Rattle.sheet_rules.specs.Work.{solved};
 ghost use Rattle.sheet.specs.Views.{shape_view};
 ghost use Rattle.sheet.specs.Sheets.{shape_in, bytes_in, source_in};
@@ -15,7 +16,7 @@ use crate::line::Source;
 use crate::refusal::Refusal;
 use crate::shape::Shape;
 use crate::work::Work;
-use elimination::progress::Progress;
+use elimination::progress::{Progress, Stopped};
 use whole::number::PastLimit;
 
 /// What is asked of a sheet: its table, or the unit of a line or of a channel.
@@ -63,12 +64,19 @@ impl Work<'_> {
         self.elimination.replace(self.row)
     }
 
-    /// The answer to a question, in the lent table.
-    pub fn answer(&mut self, question: Question, table: &mut [i32]) -> Result<Progress, Refusal>
-        requires { (self.old.units.done ≡ 0) × (is_there (shape_in self.old.units.sheet) question ≡ true) × (room_for (shape_in self.old.units.sheet) question ≤ length table.old) }
+    /// The answer to a question, in the lent table, by the verdict on the sheet.
+    pub fn answer_question(
+        &mut self,
+        verdict: Result<Progress, Stopped>,
+        question: Question,
+        table: &mut [i32],
+    ) -> Result<Progress, Refusal>
+        requires worked { solved (shape_in self.old.units.sheet) (bytes_in self.old.units.sheet) ≡ verdict_of verdict self.old.elimination.table.now }
+        requires all_done { OnOk verdict (self.old.units.done ≡ self.old.units.sheet.parts.shape.lines) }
+        requires asked { (is_there (shape_in self.old.units.sheet) question ≡ true) × (room_for (shape_in self.old.units.sheet) question ≤ length table.old) }
         ensures { answer_on (shape_in self.old.units.sheet) (bytes_in self.old.units.sheet) question table.old (solved (shape_in self.old.units.sheet) (bytes_in self.old.units.sheet)) ≡ answer_of number_of place_of result table.new }
     {
-        let done = self.solve()?;
+        let done = verdict?;
         let (source, place) = match question {
             Question::Table => {
                 self.elimination.write_table(table);
@@ -80,5 +88,14 @@ impl Work<'_> {
         self.put_in(source).map_err(|_past| Refusal::Wide(place))?;
         self.elimination.write_equation(table);
         Ok(done)
+    }
+
+    /// The sheet worked, and the answer to a question.
+    pub fn answer(&mut self, question: Question, table: &mut [i32]) -> Result<Progress, Refusal>
+        requires { (self.old.units.done ≡ 0) × (is_there (shape_in self.old.units.sheet) question ≡ true) × (room_for (shape_in self.old.units.sheet) question ≤ length table.old) }
+        ensures { answer_on (shape_in self.old.units.sheet) (bytes_in self.old.units.sheet) question table.old (solved (shape_in self.old.units.sheet) (bytes_in self.old.units.sheet)) ≡ answer_of number_of place_of result table.new }
+    {
+        let verdict = self.solve();
+        self.answer_question(verdict, question, table)
     }
 }
