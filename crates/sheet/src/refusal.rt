@@ -4,6 +4,8 @@ ghost use Rattle.sheet.specs.Refusals.{number_of, place_of, number_some, told_ap
 
 use elimination::progress::{Stop, Stopped};
 use elimination::refusal::Refuses;
+use std::error::Error;
+use std::fmt;
 
 /// Why a call on a sheet is refused, in the order of the checks.
 #[derive(Clone, Copy, Debug, PartialEq, Eq)]
@@ -82,3 +84,23 @@ impl From<Stopped> for Refusal {
         }
     }
 }
+
+impl fmt::Display for Refusal {
+    fn fmt<W: fmt::Write>(&self, f: &mut fmt::Formatter<W>) -> fmt::Result {
+        match self {
+            Refusal::Length => f.write_str("the length is below 16 or above 3,104"),
+            Refusal::Mark => f.write_str("the last four bytes are wrong"),
+            Refusal::Counts => f.write_str("a count is over its limit, or trailer byte 9 is not 0"),
+            Refusal::Distances => f.write_str("a distance or the length disagrees"),
+            Refusal::Record(i) => write!(f, "unit record {i} is out of range"),
+            Refusal::Channel(c) => write!(f, "channel {c} names no unit record"),
+            Refusal::Line(k) => write!(f, "line {k} has a wrong code, operand or last byte"),
+            Refusal::Absent => f.write_str("there is no such line or channel"),
+            Refusal::Room => f.write_str("the lent table is too short"),
+            Refusal::Wide(k) => write!(f, "line {k} passes the limit"),
+            Refusal::Clash(k) => write!(f, "line {k} clashes"),
+        }
+    }
+}
+
+impl Error for Refusal {}
