@@ -1,5 +1,5 @@
 -- The course of an equation and of equations in order: what they come to, by how each step went.
-use mathlib.Core.Path.{◌≡◌, refl, sym, ap, ◌∙◌, subst}
+use mathlib.Core.Path.{◌≡◌, refl, ap, ◌∙◌, subst}
 use mathlib.Core.Bool.{true, false}
 use mathlib.Core.List.{List}
 use Prim.Native.Nat.{ℕ, zero, suc, ◌+◌, ◌-◌, ◌*◌, ◌/◌, ◌%◌, ◌≤◌, ◌<◌, ◌^◌}
@@ -38,7 +38,7 @@ use Rattle.elimination_rules.proofs.Fall.{again_remains, again_tabled}
 use Rattle.elimination_rules.specs.Kept.{start_kept}
 use Rattle.elimination_rules.proofs.Count.{one_kept}
 use Rattle.elimination.specs.Requires.{Countable, smallest_size}
-use Rattle.elimination.specs.Room.{SameRoom, Ready, Placed, Lined}
+use Rattle.elimination.specs.Room.{SameRoom, Ready, Lined}
 use Rattle.elimination.specs.Views.{turn_of, outcome_of, verdict_of}
 use Rattle.std.specs.Result.{IsErrAnd, MatchResult}
 use Rattle.elimination.specs.declared.progress.Progress.{Progress}
@@ -231,16 +231,6 @@ module _ {s : Elimination} {es : List ℤ} {m : ℕ} (S : Lined s es m) where
       next_one : eliminate quotient fuel u v w m es ≡ on_outcome rest i (one quotient fuel u v t e k f)
       unfolding each
       next_one = let d : m - i ≡ suc (m - (i + 1)) = omega arith in rw d at L.is
-
-      -- The rounds still fit.
-      pub lining_placed : {s' : Elimination} → SameRoom s s' → s'.table.now ≡ t → Placed s' e k
-      lining_placed {s'} R x = record {
-        table = ap all_in_limit x ∙ L.kept.limit;
-        unknowns = omega (arith, S.unknowns, R.unknowns, R.unknown_columns);
-        sums = R.sums_room ∙ S.sums ∙ sym R.width;
-        long = passed_part L.passed h ∙ sym R.width;
-        count = omega (arith, L.counted, S.few);
-      }
 
       stop : (o : Outcome) (z : Verdict) → one quotient fuel u v t e k f ≡ o → ((go : List ℤ → ℕ → ℕ → Verdict) → on_outcome go i o ≡ z) → eliminate quotient fuel u v w m es ≡ z
       stop o z r g = rw r at next_one ∙ g rest

@@ -1,9 +1,8 @@
 -- Laws of rows added up: the sums stay within 64 bits, and what a loop over the rows has left to add.
-use mathlib.Core.Path.{◌≡◌, refl, sym, ap, ◌∙◌}
+use mathlib.Core.Path.{◌≡◌, sym, ap, ◌∙◌}
 use mathlib.Core.Bool.{true}
 use mathlib.Core.List.{List}
 use Prim.Native.Nat.{ℕ, ◌+◌, ◌-◌, ◌*◌, ◌≤◌, ◌<◌}
-use native.Mathlib.Nat.{zero-add, sub-zero}
 use native.Mathlib.Numerals.{add-one}
 use native.Mathlib.Omega.{arith}
 use borrow.Author.Tests.{leb-true, le-leb}
@@ -14,7 +13,7 @@ use lib.IntN.{ℤ, pos, nat_abs}
 use Rattle.whole.specs.Size.{limit, in_limit, Within, within_limit, within_add, within_mul, within_more}
 use Rattle.row.specs.Row.{at, all_in_limit, plus}
 use Rattle.row.specs.Values.{at_plus, length_plus, plus_zero}
-use Rattle.row.specs.Table.{add_rows, constants, replaced}
+use Rattle.row.specs.Table.{add_rows, constants}
 use Rattle.row.specs.Tables.{all_at, all_of, all_both, all_take, all_drop, length_constants, zeros_in_limit}
 use Rattle.row.specs.Requires.{all_within, Addable, Replaceable}
 use Rattle.row.proofs.RowLoops.{row_less}
@@ -59,9 +58,6 @@ pub record Added (fs t r s : List ℤ) (a j : ℕ) : Type 0 where
   pub long : length s ≡ length r
   pub is : add_rows (length r) (drop j fs) (drop a t) s ≡ add_rows (length r) fs t r
   pub small : all_within (limit + j * (limit * limit)) s ≡ true
-
-pub added_none : {fs t r : List ℤ} → Addable fs t r → Added fs t r r 0 0
-added_none A = record { able = A; within = omega arith; left = rw (zero-add, sub-zero) A.rows; long = refl; is = refl; small = A.row }
 
 module _ {fs t r s : List ℤ} {a j : ℕ} (A : Added fs t r s a j) where
   pub added_all : length fs ≤ j → s ≡ add_rows (length r) fs t r
@@ -115,6 +111,3 @@ module _ {u v : ℕ} {t e sums out : List ℤ} (R : Replaceable u v t e sums out
     few = omega (arith, long_numbers);
     rows = rw (long_numbers, length_constants u e R.columns) R.rows;
   }
-
-  pub replace_added : add_rows (length (constants u e)) (take v e) t (constants u e) ≡ replaced u v t e
-  replace_added = rw (length_constants u e R.columns)
