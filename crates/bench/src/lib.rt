@@ -33,6 +33,7 @@ impl<R: Refuses> From<Result<Progress, R>> for BenchAnswer {
             Err(refusal) => BenchAnswer {
                 number: refusal.number(),
                 rounds: 0,
+                // C's type, by `as`: std has no `From<usize>` for `u64`.
                 place: refusal.place() as u64,
                 free: 0,
             },

@@ -89,6 +89,7 @@ impl TryFrom<[u8; 16]> for Header {
         };
         Ok(Header {
             kind: Kind::try_from(u32::from_le_bytes(*kind))?,
+            // By `as`: std has no `From<u32>` for `usize`, and `try_from` would add a failure that can't be.
             room: u32::from_le_bytes(*room) as usize,
             questions: u32::from_le_bytes(*questions) as usize,
             length: u32::from_le_bytes(*length) as usize,
@@ -96,7 +97,8 @@ impl TryFrom<[u8; 16]> for Header {
     }
 }
 
-/// Reads until the room is full or the input ends, and says how many bytes it put at the room's start.
+/// Reads until the room is full or the input ends, and says how many bytes it put at the room's start. By hand, since std's
+/// `take` and `read_to_end` promise none of the three clauses.
 pub fn read_full<R: Read>(input: &mut R, room: &mut [u8]) -> io::Result<usize>
     ensures within { IfOk result (λ n. n ≤ length room.new) }
     ensures bytes { IfOk result (λ n. Consumes (R.remaining input.old) (R.remaining input.new) (take n room.new)) }

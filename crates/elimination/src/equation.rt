@@ -81,6 +81,7 @@ impl Elimination<'_> {
             rounds: 0,
             free: whole::word::first(self.unknowns),
         };
+        // Not by `chunks_exact`: an equation may have no columns.
         for i in 0..count {
             done = self
                 .one(&es[i * w..(i + 1) * w], done)

@@ -1,4 +1,5 @@
-// The table: a row for each unknown, end to end.
+// The table: a row for each unknown, end to end. Its rows are parts by their ends: of what was written through `chunks_exact_mut`,
+// std's contracts say only how long it is, and a row may have no columns.
 ghost use Rattle.std.specs.Prelude.{◌≡◌, true, ◌*◌, ◌≤◌, ◌<◌, length};
 ghost use Rattle.row.specs.Row.{all_in_limit};
 ghost use Rattle.row.specs.Judged.{judged, judged_of};

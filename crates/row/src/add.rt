@@ -1,4 +1,5 @@
-// Rows added up in 64 bits, then judged complete and narrowed.
+// Rows added up in 64 bits, then judged complete and narrowed. A loop that writes one slice from another writes by index: of what
+// a `zip` over `iter_mut` wrote, std's contracts say only how long it is.
 ghost use Rattle.std.specs.Prelude.{◌≡◌, true, ◌≤◌, length};
 ghost use Rattle.row.specs.Row.{plus};
 ghost use Rattle.row.specs.Judged.{judged, judged_of};

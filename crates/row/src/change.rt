@@ -1,4 +1,5 @@
-// Rows changed in place.
+// Rows changed in place. A loop that writes one slice from another writes by index: of what a `zip` over `iter_mut` wrote, std's
+// contracts say only how long it is.
 ghost use Rattle.std.specs.Prelude.{◌≡◌, true, ◌++◌, ◌≤◌, ◌<◌, pos, length, drop, replicate, ◌<ℤ◌};
 ghost use Rattle.row.specs.Row.{all_in_limit, less as row_less};
 ghost use Rattle.row.specs.Judged.{judged, judged_of};

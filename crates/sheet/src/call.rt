@@ -16,7 +16,7 @@ use crate::work::Work;
 use elimination::progress::Progress;
 use elimination::room::Elimination;
 
-// Owns the room.
+// Owns the room: fixed memory, as firmware has it.
 fn owner(sheet: &Sheet, question: Question, table: &mut [i32]) -> Result<Progress, Refusal>
     requires { (is_there (shape_in sheet.now) question ≡ true) × (room_for (shape_in sheet.now) question ≤ length table.old) }
     ensures { answer_on (shape_in sheet.now) (bytes_in sheet.now) question table.old (solved (shape_in sheet.now) (bytes_in sheet.now)) ≡ answer_of number_of place_of result table.new }

@@ -18,7 +18,7 @@ pub enum Operation {
 }
 
 impl Operation {
-    /// The operation of a code, where the table has one.
+    /// The operation of a code, where the table has one. The only place that knows the codes.
     pub fn of(code: u8) -> Option<Operation>
         ensures { code_of code ≡ code_for result }
     {

@@ -2,15 +2,35 @@
 ghost use Rattle.std.specs.Prelude.{◌≡◌, map, ◌+◌, ◌<◌, length, OnOk};
 ghost use Rattle.row.specs.Judged.{judged, judged_of};
 ghost use Rattle.sheet_rules.specs.Lines.{unit_at, equations_at};
+ghost use Rattle.sheet.specs.Views.{shape_view};
 ghost use Rattle.sheet.specs.Sheets.{shape_in, bytes_in, source_in, sum_in};
 ghost use Rattle.sheet.specs.Steps.{stated_of};
 ghost use Rattle.sheet.specs.Store.{Stored, Sourced, Summed};
 
 use crate::line::{Source, Sum};
 use crate::parts::Sheet;
+use crate::shape::Shape;
 use whole::number::PastLimit;
 
-/// The units of a sheet's first lines. Only `read` and `give` know how they are stored.
+/// The unit of line k goes into the store. Only `give` and `read` know how units are stored.
+pub fn give(store: &mut [i32], s: &[u8], shape: Shape, k: usize, unit: &[i32])
+    requires { Stored (shape_view shape) s.now k store.old × (k < shape.lines) × (length unit.now ≡ shape.columns) × (unit.now ≡ unit_at (shape_view shape) s.now k) }
+    ensures { Stored (shape_view shape) s.now (k + 1) store.new }
+{
+    let from = shape.columns * k;
+    row::change::copy(unit, &mut store[from..from + shape.columns]);
+}
+
+/// The unit of line i, of the first k.
+pub fn read(store: &[i32], s: &[u8], shape: Shape, k: usize, i: usize, out: &mut [i32])
+    requires { Stored (shape_view shape) s.now k store.now × (i < k) × (length out.old ≡ shape.columns) }
+    ensures { out.new ≡ unit_at (shape_view shape) s.now i }
+{
+    let from = shape.columns * i;
+    row::change::copy(&store[from..from + shape.columns], out);
+}
+
+/// The units of a sheet's first lines.
 #[derive(Drop)]
 pub struct Units<'a> {
     pub sheet: Sheet<'a>,
@@ -20,38 +40,17 @@ pub struct Units<'a> {
 }
 
 impl Units<'_> {
-    /// The unit of line i.
-    pub fn read(&self, i: usize, out: &mut [i32])
-        requires { (i < self.now.done) × (length out.old ≡ self.now.sheet.parts.shape.columns) }
-        ensures { out.new ≡ unit_at (shape_in self.now.sheet) (bytes_in self.now.sheet) i }
-    {
-        let columns = self.sheet.parts.shape.columns;
-        let from = columns * i;
-        row::change::copy(&self.store[from..from + columns], out);
-    }
-
-    /// The unit of the next line.
-    pub fn give(&mut self, unit: &[i32])
-        requires { (self.old.done < self.old.sheet.parts.shape.lines) × (length unit.now ≡ self.old.sheet.parts.shape.columns) × (unit.now ≡ unit_at (shape_in self.old.sheet) (bytes_in self.old.sheet) self.old.done) }
-        ensures done { self.new.done ≡ self.old.done + 1 }
-        ensures sheet { self.new.sheet ≡ self.old.sheet }
-    {
-        let columns = self.sheet.parts.shape.columns;
-        let from = columns * self.done;
-        row::change::copy(unit, &mut self.store[from..from + columns]);
-        self.done += 1;
-    }
-
     /// The row of a source.
     pub fn load(&self, source: Source, out: &mut [i32])
         requires { Sourced (shape_in self.now.sheet) self.now.done source × (length out.old ≡ self.now.sheet.parts.shape.columns) }
         ensures { out.new ≡ source_in self.now.sheet self.now.done source }
     {
+        let parts = self.sheet.parts;
         match source {
             Source::Nothing => row::change::clear(out),
-            Source::Line(i) => self.read(i, out),
-            Source::Channel(c) => self.sheet.parts.record(self.sheet.parts.channel(c), out),
-            Source::Record(i) => self.sheet.parts.record(i, out),
+            Source::Line(i) => read(self.store, parts.bytes, parts.shape, self.done, i, out),
+            Source::Channel(c) => parts.record(parts.channel(c), out),
+            Source::Record(i) => parts.record(i, out),
             Source::Unknown(j) => row::change::itself(out, j),
         }
     }
@@ -88,7 +87,8 @@ impl Units<'_> {
         let parts = self.sheet.parts;
         let line = parts.line(self.done);
         self.work_out(line.unit(), unit, other)?;
-        self.give(unit);
+        give(self.store, parts.bytes, parts.shape, self.done, unit);
+        self.done += 1;
         Ok(())
     }
 

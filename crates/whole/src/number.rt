@@ -22,7 +22,7 @@ impl fmt::Display for PastLimit {
 
 impl Error for PastLimit {}
 
-/// x in 64 bits.
+/// x in 64 bits: std's, under the name that callers have.
 pub fn widen(x: i32) -> i64
     ensures { result ≡ x }
 {
@@ -36,6 +36,7 @@ pub fn in_limit(x: i64) -> bool
     x.unsigned_abs() <= LIMIT
 }
 
+/// x in 32 bits. By `as`, which a proof shows to lose nothing: `try_from` has a failure that can't be.
 pub fn narrow(x: i64) -> i32
     requires { in_limit x ≡ true }
     ensures { result ≡ x }
@@ -53,13 +54,14 @@ pub fn judge(x: i64) -> Result<i32, PastLimit>
     Ok(narrow(x))
 }
 
-/// The size of x, which for -2^31 only an unsigned number holds.
+/// The size of x, which for -2^31 only an unsigned number holds: std's, under the name that callers have.
 pub fn size(x: i32) -> u32
     ensures { result ≡ nat_abs x }
 {
     x.unsigned_abs()
 }
 
+/// The negation, under the name that callers have.
 pub fn minus(x: i32) -> i32
     requires { in_limit x ≡ true }
     ensures { result ≡ neg_ℤ x }
