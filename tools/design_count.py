@@ -23,10 +23,13 @@ PATTERNS = [
     ('4', 'a byte or a text compared byte by byte', r'\w+\[[^\]]*\] (?:!=|==) \d+'),
     ('4', 'a function that prints or converts by hand',
      r'^(?:pub )?fn (?:wide|widen|narrow|size|minus|signed|number|number_at|exponent|spoken|heard|digits|put|word|words|table|both_below)\('),
-    ('6', 'a part of a buffer by its two ends', r'let b = a \+ |\bat \+ \d+'),
+    ('6', 'a part of a buffer by its two ends', r'let b = a \+ |\bat \+ \d+|\[\w+\.\.\w+ \+ |\* \w+\.\.\('),
     ('6', 'a fixed buffer', r'\[0(?:u8|i32|i64)?; \d+\]'),
     ('7', 'a function pointer, a boxed closure or a dyn', r'\bdyn \w|: fn\('),
 ]
+# What the heads of functions repeat: a fact, or a parameter that always travels with another.
+FACTS = [(f, rf'\b{f} ') for f in ('Formed', 'Laid', 'Roomy', 'Stored', 'Ready')]
+FACTS += [('≡ ..columns', r'≡ [\w.]*\bcolumns\b'), ('the shape as a parameter', r'\b(?:sh|shape): ')]
 
 
 def functions(text):
@@ -68,9 +71,9 @@ def heads(files):
                 results.append(place)
             if parameters(head) > 6:
                 long.append(place)
-            for fact in ('Formed ', 'Laid ', 'Roomy ', 'Stored ', 'Ready ', '≡ sh.columns', 'sh: '):
-                if fact in head:
-                    facts.setdefault(fact.strip(), []).append(place)
+            for fact, pattern in FACTS:
+                if re.search(pattern, head):
+                    facts.setdefault(fact, []).append(place)
     yield '1', 'true or false for a result that leaves a row', flags
     yield '1', 'true or false in an io::Result', results
     yield '5', 'a function of more than six parameters', long
