@@ -60,7 +60,7 @@ impl Work<'_> {
         ensures judged { judged (replaced self.old.elimination.unknown_columns self.old.elimination.unknowns self.old.elimination.table.now (source_in self.old.units.sheet self.old.units.done source)) ≡ judged_of result self.new.elimination.equation.now }
         ensures sheet { self.new.units.sheet ≡ self.old.units.sheet }
     {
-        self.units.load(source, self.row);
+        self.units.known().load(source, self.row);
         self.elimination.replace(self.row)
     }
 

@@ -30,16 +30,16 @@ pub fn read(store: &[i32], s: &[u8], shape: Shape, k: usize, i: usize, out: &mut
     row::change::copy(&store[from..from + shape.columns], out);
 }
 
-/// The units of a sheet's first lines.
-#[derive(Drop)]
-pub struct Units<'a> {
+/// The units of a sheet's first lines, to be read.
+#[derive(Clone, Copy)]
+pub struct Known<'a> {
     pub sheet: Sheet<'a>,
-    pub store: &'a mut [i32],
+    pub store: &'a [i32],
     pub done: usize,
     ghost stored: { Stored (shape_in sheet) (bytes_in sheet) done store.now },
 }
 
-impl Units<'_> {
+impl Known<'_> {
     /// The row of a source.
     pub fn load(&self, source: Source, out: &mut [i32])
         requires { Sourced (shape_in self.now.sheet) self.now.done source × (length out.old ≡ self.now.sheet.parts.shape.columns) }
@@ -77,21 +77,6 @@ impl Units<'_> {
         }
     }
 
-    /// The unit of the next line, worked out and stored.
-    pub fn next(&mut self, unit: &mut [i32], other: &mut [i32]) -> Result<(), PastLimit>
-        requires { (self.old.done < self.old.sheet.parts.shape.lines) × (length unit.old ≡ self.old.sheet.parts.shape.columns) × (length other.old ≡ self.old.sheet.parts.shape.columns) }
-        ensures judged { judged (unit_at (shape_in self.old.sheet) (bytes_in self.old.sheet) self.old.done) ≡ judged_of result unit.new }
-        ensures done { OnOk result (self.new.done ≡ self.old.done + 1) }
-        ensures sheet { self.new.sheet ≡ self.old.sheet }
-    {
-        let parts = self.sheet.parts;
-        let line = parts.line(self.done);
-        self.work_out(line.unit(), unit, other)?;
-        give(self.store, parts.bytes, parts.shape, self.done, unit);
-        self.done += 1;
-        Ok(())
-    }
-
     /// The equation of line k, if it has one.
     pub fn equation(&self, k: usize, e: &mut [i32], other: &mut [i32]) -> Result<bool, PastLimit>
         requires { (k < self.now.done) × (length e.old ≡ self.now.sheet.parts.shape.columns) × (length other.old ≡ self.now.sheet.parts.shape.columns) }
@@ -102,5 +87,45 @@ impl Units<'_> {
         };
         self.work_out(sum, e, other)?;
         Ok(true)
+    }
+}
+
+/// The same, with the store that they go into.
+#[derive(Drop)]
+pub struct Units<'a> {
+    pub sheet: Sheet<'a>,
+    pub store: &'a mut [i32],
+    pub done: usize,
+    ghost stored: { Stored (shape_in sheet) (bytes_in sheet) done store.now },
+}
+
+impl Units<'_> {
+    /// The units so far.
+    pub fn known(&self) -> Known<'_>
+        ensures sheet { result.sheet ≡ self.now.sheet }
+        ensures store { result.store.now ≡ self.now.store.now }
+        ensures done { result.done ≡ self.now.done }
+    {
+        Known {
+            sheet: self.sheet,
+            store: self.store,
+            done: self.done,
+        }
+    }
+
+    /// The unit of the next line, worked out and stored.
+    pub fn next(&mut self, unit: &mut [i32], other: &mut [i32]) -> Result<(), PastLimit>
+        requires { (self.old.done < self.old.sheet.parts.shape.lines) × (length unit.old ≡ self.old.sheet.parts.shape.columns) × (length other.old ≡ self.old.sheet.parts.shape.columns) }
+        ensures judged { judged (unit_at (shape_in self.old.sheet) (bytes_in self.old.sheet) self.old.done) ≡ judged_of result unit.new }
+        ensures done { OnOk result (self.new.done ≡ self.old.done + 1) }
+        ensures sheet { self.new.sheet ≡ self.old.sheet }
+        ensures store { self.new.store.ghost_name ≡ self.old.store.ghost_name }
+    {
+        let parts = self.sheet.parts;
+        let line = parts.line(self.done);
+        self.known().work_out(line.unit(), unit, other)?;
+        give(self.store, parts.bytes, parts.shape, self.done, unit);
+        self.done += 1;
+        Ok(())
     }
 }

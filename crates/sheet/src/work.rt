@@ -51,7 +51,7 @@ impl Work<'_> {
     {
         let k = self.units.done;
         self.units.next(self.row, self.other)?;
-        if !self.units.equation(k, self.row, self.other)? {
+        if !self.units.known().equation(k, self.row, self.other)? {
             return Ok(done);
         }
         self.elimination.one(self.row, done)

@@ -12,15 +12,15 @@ returns-in_err-next-clause-outcome c =
 pub returns-in_err-equation-clause-outcome : goal.returns-in_err-equation-clause-outcome
 returns-in_err-equation-clause-outcome c =
     said_widened
-    (one_equation _ _ _ _ _ _ (rw c.in_ok-next.was at c.next.ensures.judged) wide (rw (← c.next.ensures.sheet) (rw c.in_err-equation.was at c.equation.ensures)))
+    (one_equation _ _ _ _ _ _ (rw c.in_ok-next.was at c.next.ensures.judged) wide (rw (c.in_err-equation.was, c.known.ensures.sheet, c.next.ensures.sheet) at c.equation.ensures))
     c.from_residual-in_err-equation.result _ c.from_residual-in_err-equation.ensures.1
 
 pub returns-then-not-branch-clause-outcome : goal.returns-then-not-branch-clause-outcome
 returns-then-not-branch-clause-outcome c =
-    no_equation _ _ _ _ _ _ (rw c.in_ok-next.was at c.next.ensures.judged) (rw (c.in_ok-equation.was, c.if-not-branch.true, c.next.ensures.sheet) at c.equation.ensures)
+    no_equation _ _ _ _ _ _ (rw c.in_ok-next.was at c.next.ensures.judged) (rw (c.in_ok-equation.was, c.if-not-branch.true, c.known.ensures.sheet, c.next.ensures.sheet) at c.equation.ensures)
 
 pub returns-clause-outcome : goal.returns-clause-outcome
 returns-clause-outcome c =
     one_equation _ _ _ _ _ _ (rw c.in_ok-next.was at c.next.ensures.judged) (good c.equation.new.e)
-    (rw (c.in_ok-equation.was, c.if-not-branch.false, c.next.ensures.sheet) at c.equation.ensures)
+    (rw (c.in_ok-equation.was, c.if-not-branch.false, c.known.ensures.sheet, c.next.ensures.sheet) at c.equation.ensures)
     ∙ rw (c.args.self.now.roomy.unknown_columns, c.args.self.now.roomy.unknowns) at c.one.ensures.outcome

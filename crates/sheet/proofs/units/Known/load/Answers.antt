@@ -1,7 +1,7 @@
--- `sheet::units::Units::load` meets its contract.
+-- `sheet::units::Known::load` meets its contract.
 use Rattle.std.proofs.Common.{sym, ◌∙◌}
 use Rattle.sheet_rules.proofs.Prefix.{unit_of_lem}
-use Rattle.sheet.proofs.units.Units.load.Goals as goal
+use Rattle.sheet.proofs.units.Known.load.Goals as goal
 
 pub returns-in-Line : goal.returns-in-Line
 returns-in-Line c =

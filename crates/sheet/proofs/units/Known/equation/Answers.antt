@@ -1,7 +1,7 @@
--- `sheet::units::Units::equation` meets its contract.
+-- `sheet::units::Known::equation` meets its contract.
 use Rattle.std.proofs.Common.{sym, ap, ◌∙◌, ◌∷◌, [], arith}
 use Rattle.sheet.proofs.Sources.{equation_there, equation_is, wide_stated}
-use Rattle.sheet.proofs.units.Units.equation.Goals as goal
+use Rattle.sheet.proofs.units.Known.equation.Goals as goal
 
 pub work_out-requires : goal.work_out-requires
 work_out-requires c =
