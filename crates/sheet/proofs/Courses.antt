@@ -19,13 +19,15 @@ use Rattle.elimination.specs.declared.progress.Progress.{Progress}
 use Rattle.elimination.specs.declared.progress.Stop as Why
 use Rattle.elimination.specs.declared.progress.Stopped.{Stopped}
 use Rattle.elimination.specs.Views.{outcome_of, verdict_of}
-use Rattle.elimination.proofs.Courses.{one_wide}
+use Rattle.elimination.proofs.Courses.{room_again, one_wide}
 use Rattle.sheet_rules.specs.Shape.{Shape}
 use Rattle.sheet_rules.specs.Lines.{unit_at, equations_at}
 use Rattle.sheet_rules.specs.Work.{on_done, equations, line_outcome, work, solved}
 use Rattle.sheet_rules.specs.Formed.{Formed}
 use Rattle.sheet_rules.proofs.WorkKept.{start_kept_lines, line_kept}
 use Rattle.sheet.specs.Working.{Stepping}
+use Rattle.sheet.specs.Rooms.{SameWork}
+use Rattle.sheet.specs.declared.room.Work.{Work}
 
 -- ---- the equations of a line, of which there is one at the most
 last_done : (o : Outcome) → on_done done o ≡ o
@@ -101,3 +103,14 @@ module _ {sh : Shape} {s : List ℕ} {i : ℕ} {p : Progress} {t : List ℤ} (L 
         let P = L.stepping in
         let n = line_kept sh s F i t p.rounds p.free h P.kept e in
         record { stepping = record { kept = n.0; counted = omega (arith, n.1, P.counted) }; is = next e }
+
+-- What two steps keep, both keep.
+pub work_again : {w x y : Work} → SameWork w x → SameWork x y → SameWork w y
+work_again A B =
+    record {
+      sheet = B.sheet ∙ A.sheet;
+      store = B.store ∙ A.store;
+      elimination = room_again A.elimination B.elimination;
+      row = B.row ∙ A.row;
+      other = B.other ∙ A.other;
+    }

@@ -8,3 +8,4 @@ pub mod Steps
 pub mod Working
 pub mod Asked
 pub mod Coincide
+pub mod Rooms

@@ -10,12 +10,13 @@ ghost use Rattle.sheet.specs.Views.{shape_view};
 ghost use Rattle.sheet.specs.Sheets.{shape_in, bytes_in, source_in};
 ghost use Rattle.sheet.specs.Store.{Sourced};
 ghost use Rattle.sheet.specs.Refusals.{number_of, place_of};
+ghost use Rattle.sheet.specs.Rooms.{SameWork};
 ghost use Rattle.sheet.specs.Asked.{is_there, room_for, answer_on};
 
 use crate::line::Source;
 use crate::refusal::Refusal;
+use crate::room::Work;
 use crate::shape::Shape;
-use crate::work::Work;
 use elimination::progress::{Progress, Stopped};
 use whole::number::PastLimit;
 
@@ -58,7 +59,9 @@ impl Work<'_> {
         requires row { all_in_limit (source_in self.old.units.sheet self.old.units.done source) ≡ true }
         requires table { all_in_limit self.old.elimination.table.now ≡ true }
         ensures judged { judged (replaced self.old.elimination.unknown_columns self.old.elimination.unknowns self.old.elimination.table.now (source_in self.old.units.sheet self.old.units.done source)) ≡ judged_of result self.new.elimination.equation.now }
-        ensures sheet { self.new.units.sheet ≡ self.old.units.sheet }
+        ensures table { self.new.elimination.table.now ≡ self.old.elimination.table.now }
+        ensures done { self.new.units.done ≡ self.old.units.done }
+        ensures room { SameWork self.old self.new }
     {
         self.units.known().load(source, self.row);
         self.elimination.replace(self.row)
@@ -74,7 +77,10 @@ impl Work<'_> {
         requires worked { solved (shape_in self.old.units.sheet) (bytes_in self.old.units.sheet) ≡ verdict_of verdict self.old.elimination.table.now }
         requires all_done { OnOk verdict (self.old.units.done ≡ self.old.units.sheet.parts.shape.lines) }
         requires asked { (is_there (shape_in self.old.units.sheet) question ≡ true) × (room_for (shape_in self.old.units.sheet) question ≤ length table.old) }
-        ensures { answer_on (shape_in self.old.units.sheet) (bytes_in self.old.units.sheet) question table.old (solved (shape_in self.old.units.sheet) (bytes_in self.old.units.sheet)) ≡ answer_of number_of place_of result table.new }
+        ensures answer { answer_on (shape_in self.old.units.sheet) (bytes_in self.old.units.sheet) question table.old (solved (shape_in self.old.units.sheet) (bytes_in self.old.units.sheet)) ≡ answer_of number_of place_of result table.new }
+        ensures table { self.new.elimination.table.now ≡ self.old.elimination.table.now }
+        ensures done { self.new.units.done ≡ self.old.units.done }
+        ensures room { SameWork self.old self.new }
     {
         let done = verdict?;
         let (source, place) = match question {
@@ -93,7 +99,8 @@ impl Work<'_> {
     /// The sheet worked, and the answer to a question.
     pub fn answer(&mut self, question: Question, table: &mut [i32]) -> Result<Progress, Refusal>
         requires { (self.old.units.done ≡ 0) × (is_there (shape_in self.old.units.sheet) question ≡ true) × (room_for (shape_in self.old.units.sheet) question ≤ length table.old) }
-        ensures { answer_on (shape_in self.old.units.sheet) (bytes_in self.old.units.sheet) question table.old (solved (shape_in self.old.units.sheet) (bytes_in self.old.units.sheet)) ≡ answer_of number_of place_of result table.new }
+        ensures answer { answer_on (shape_in self.old.units.sheet) (bytes_in self.old.units.sheet) question table.old (solved (shape_in self.old.units.sheet) (bytes_in self.old.units.sheet)) ≡ answer_of number_of place_of result table.new }
+        ensures room { SameWork self.old self.new }
     {
         let verdict = self.solve();
         self.answer_question(verdict, question, table)

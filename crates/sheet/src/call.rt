@@ -11,8 +11,8 @@ use crate::ask::Question;
 use crate::check::check_sheet;
 use crate::parts::Sheet;
 use crate::refusal::Refusal;
+use crate::room::Work;
 use crate::units::Units;
-use crate::work::Work;
 use elimination::progress::Progress;
 use elimination::room::Elimination;
 

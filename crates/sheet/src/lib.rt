@@ -8,6 +8,7 @@ pub mod line;
 pub mod operation;
 pub mod parts;
 pub mod refusal;
+pub mod room;
 pub mod shape;
 pub mod units;
 pub mod work;

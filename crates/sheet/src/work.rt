@@ -3,43 +3,11 @@ ghost use Rattle.std.specs.Prelude.{◌≡◌, ◌+◌, ◌<◌, OnOk};
 ghost use Rattle.elimination.specs.Views.{outcome_of, verdict_of};
 ghost use Rattle.sheet_rules.specs.Work.{line_outcome, solved};
 ghost use Rattle.sheet.specs.Sheets.{shape_in, bytes_in};
-ghost use Rattle.sheet.specs.Working.{Roomy, Stepping};
+ghost use Rattle.sheet.specs.Working.{Stepping};
+ghost use Rattle.sheet.specs.Rooms.{SameWork};
 
-use crate::units::Units;
+use crate::room::Work;
 use elimination::progress::{Progress, Stop, Stopped};
-use elimination::room::Elimination;
-
-/// The work on a sheet, in lent slices.
-#[derive(Drop)]
-pub struct Work<'a> {
-    pub units: Units<'a>,
-    pub elimination: Elimination<'a>,
-    /// A line's unit, then its equation.
-    pub row: &'a mut [i32],
-    /// What is taken from it.
-    pub other: &'a mut [i32],
-    ghost roomy: { Roomy (shape_in units.sheet) elimination row.now other.now },
-}
-
-impl<'a> Work<'a> {
-    /// The work on the sheet of these units, with room for two rows.
-    pub fn new(
-        units: Units<'a>,
-        elimination: Elimination<'a>,
-        row: &'a mut [i32],
-        other: &'a mut [i32],
-    ) -> Work<'a>
-        requires { Roomy (shape_in units.sheet) elimination row.old other.old }
-        ensures { (result.units.sheet ≡ units.entry.sheet) × (result.units.done ≡ units.entry.done) }
-    {
-        Work {
-            units,
-            elimination,
-            row,
-            other,
-        }
-    }
-}
 
 impl Work<'_> {
     /// The next line: its unit, then its equation through the elimination.
@@ -47,7 +15,7 @@ impl Work<'_> {
         requires { (self.old.units.done < self.old.units.sheet.parts.shape.lines) × Stepping (shape_in self.old.units.sheet) done self.old.elimination.table.now }
         ensures outcome { line_outcome (shape_in self.old.units.sheet) (bytes_in self.old.units.sheet) self.old.units.done self.old.elimination.table.now done.rounds done.free ≡ outcome_of result self.new.elimination.table.now }
         ensures done { OnOk result (self.new.units.done ≡ self.old.units.done + 1) }
-        ensures sheet { self.new.units.sheet ≡ self.old.units.sheet }
+        ensures room { SameWork self.old self.new }
     {
         let k = self.units.done;
         self.units.next(self.row, self.other)?;
@@ -62,7 +30,7 @@ impl Work<'_> {
         requires { self.old.units.done ≡ 0 }
         ensures verdict { solved (shape_in self.old.units.sheet) (bytes_in self.old.units.sheet) ≡ verdict_of result self.new.elimination.table.now }
         ensures done { OnOk result (self.new.units.done ≡ self.old.units.sheet.parts.shape.lines) }
-        ensures sheet { self.new.units.sheet ≡ self.old.units.sheet }
+        ensures room { SameWork self.old self.new }
     {
         self.elimination.start();
         let shape = self.units.sheet.parts.shape;

@@ -3,7 +3,7 @@ use Rattle.std.proofs.Common.{◌∙◌}
 use Rattle.row.specs.Judged.{good, wide}
 use Rattle.elimination.proofs.Courses.{said_widened}
 use Rattle.sheet.proofs.Courses.{unit_wide, no_equation, one_equation}
-use Rattle.sheet.proofs.work.Work.line.Goals as goal
+use Rattle.sheet.proofs.room.Work.line.Goals as goal
 
 pub returns-in_err-next-clause-outcome : goal.returns-in_err-next-clause-outcome
 returns-in_err-next-clause-outcome c =

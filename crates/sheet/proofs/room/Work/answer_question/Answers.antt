@@ -6,8 +6,8 @@ use Rattle.sheet.specs.Sheets.{shape_in}
 use Rattle.elimination.proofs.Courses.{mapped_err, mapped_ok}
 use Rattle.sheet.specs.declared.refusal.Refusal as R
 use Rattle.sheet.proofs.Questions.{Sought, sought_in_limit, sought_answer, said_refused}
-use Rattle.sheet.proofs.work.Work.answer_question.Goals.{in-Line, in-Channel}
-use Rattle.sheet.proofs.work.Work.answer_question.Goals as goal
+use Rattle.sheet.proofs.room.Work.answer_question.Goals.{in-Line, in-Channel}
+use Rattle.sheet.proofs.room.Work.answer_question.Goals as goal
 
 pub put_in-requires-clause-row : goal.put_in-requires-clause-row
 put_in-requires-clause-row c =
@@ -24,8 +24,8 @@ put_in-requires-clause-table c =
     let d = rw c.in_ok-done.was at c.requires.all_done in
     (solved_kept _ _ c.args.self.now.units.sheet.formed v).kept.limit
 
-pub returns-in_err-map_err : goal.returns-in_err-map_err
-returns-in_err-map_err c =
+pub returns-in_err-map_err-clause-answer : goal.returns-in_err-map_err-clause-answer
+returns-in_err-map_err-clause-answer c =
     let w = c.args.self.now in
     let p = c.match-question.source in
     let v = rw c.in_ok-done.was at c.requires.worked in
@@ -38,8 +38,8 @@ returns-in_err-map_err c =
     sought_answer w.units.sheet.formed v c.args.question p.0 p.1 o c.requires.asked.0 c.args.table.now wide judge
     ∙ said_refused (R.TheVariants.Wide p.1) c.from_residual-in_err-map_err.result c.args.table.now (rw x at c.from_residual-in_err-map_err.ensures.1)
 
-pub returns : goal.returns
-returns c =
+pub returns-clause-answer : goal.returns-clause-answer
+returns-clause-answer c =
     let w = c.args.self.now in
     let p = c.match-question.source in
     let v = rw c.in_ok-done.was at c.requires.worked in
