@@ -15,7 +15,7 @@ number_of R.TheVariants.Distances = 4
 number_of (R.TheVariants.Record i) = 5
 number_of (R.TheVariants.Channel c) = 6
 number_of (R.TheVariants.Line k) = 7
-number_of R.TheVariants.Room = 8
+number_of R.TheVariants.TableTooShort = 8
 number_of (R.TheVariants.Wide k) = 9
 number_of (R.TheVariants.Clash k) = 10
 number_of R.TheVariants.Absent = 11
@@ -28,7 +28,7 @@ place_of R.TheVariants.Distances = 0
 place_of (R.TheVariants.Record i) = i
 place_of (R.TheVariants.Channel c) = c
 place_of (R.TheVariants.Line k) = k
-place_of R.TheVariants.Room = 0
+place_of R.TheVariants.TableTooShort = 0
 place_of (R.TheVariants.Wide k) = k
 place_of (R.TheVariants.Clash k) = k
 place_of R.TheVariants.Absent = 0
@@ -55,7 +55,7 @@ number_some R.TheVariants.Distances = omega arith
 number_some (R.TheVariants.Record i) = omega arith
 number_some (R.TheVariants.Channel c) = omega arith
 number_some (R.TheVariants.Line k) = omega arith
-number_some R.TheVariants.Room = omega arith
+number_some R.TheVariants.TableTooShort = omega arith
 number_some (R.TheVariants.Wide k) = omega arith
 number_some (R.TheVariants.Clash k) = omega arith
 number_some R.TheVariants.Absent = omega arith
@@ -70,7 +70,7 @@ from_number n i =
     (if (eqb n 5) (R.TheVariants.Record i)
     (if (eqb n 6) (R.TheVariants.Channel i)
     (if (eqb n 7) (R.TheVariants.Line i)
-    (if (eqb n 8) R.TheVariants.Room
+    (if (eqb n 8) R.TheVariants.TableTooShort
     (if (eqb n 9) (R.TheVariants.Wide i)
     (if (eqb n 10) (R.TheVariants.Clash i) R.TheVariants.Absent)))))))))
 
@@ -83,7 +83,7 @@ read_back R.TheVariants.Distances = refl
 read_back (R.TheVariants.Record i) = refl
 read_back (R.TheVariants.Channel c) = refl
 read_back (R.TheVariants.Line k) = refl
-read_back R.TheVariants.Room = refl
+read_back R.TheVariants.TableTooShort = refl
 read_back (R.TheVariants.Wide k) = refl
 read_back (R.TheVariants.Clash k) = refl
 read_back R.TheVariants.Absent = refl

@@ -57,7 +57,7 @@ fn ask(s: &[u8], question: Question, table: &mut [i32]) -> Result<Progress, Refu
         return Err(Refusal::Absent);
     }
     if table.len() < question.room(shape) {
-        return Err(Refusal::Room);
+        return Err(Refusal::TableTooShort);
     }
     owner(&sheet, question, table)
 }

@@ -1,5 +1,5 @@
 // Checks 1 to 7.
-ghost use Rattle.std.specs.Prelude.{◌≡◌, true, map, ◌≤◌, ◌<◌, length, IfOk, Some};
+ghost use Rattle.std.specs.Prelude.{◌≡◌, true, map, ◌≤◌, ◌<◌, length, IfOk, Ok};
 ghost use Rattle.whole.specs.Bytes.{signed};
 ghost use Rattle.whole.specs.Place.{found_of};
 ghost use Rattle.row.specs.Row.{all_zero};
@@ -17,7 +17,7 @@ use crate::parts::{Parts, Sheet};
 use crate::refusal::Refusal;
 use crate::shape::Shape;
 
-// "last four bytes wrong" is not.
+// Whether the last four bytes are right.
 fn good_mark(s: &[u8]) -> bool
     requires { 16 ≤ length s.now }
     ensures { result ≡ good_mark s.now }
@@ -90,7 +90,7 @@ fn first_channel(parts: &Parts) -> Option<usize>
 
 // "a, b" of line k, by its operation.
 fn good_operands(shape: Shape, k: usize, operation: Operation, a: usize, b: usize) -> bool
-    ensures { result ≡ good_operands (shape_view shape) k (code_for (Some operation)) a b }
+    ensures { result ≡ good_operands (shape_view shape) k (code_for (Ok operation)) a b }
 {
     match operation {
         Operation::Number => true,
@@ -108,7 +108,7 @@ fn good_operands(shape: Shape, k: usize, operation: Operation, a: usize, b: usiz
 fn good_line(shape: Shape, k: usize, line: Line) -> bool
     ensures { result ≡ good_line (shape_view shape) k (line_view line) }
 {
-    let Some(operation) = Operation::of(line.code) else {
+    let Ok(operation) = Operation::try_from(line.code) else {
         return false;
     };
     line.last == 0
@@ -127,8 +127,8 @@ fn first_line(parts: &Parts) -> Option<usize>
     (0..parts.shape.lines).find(|&k| !good_line(parts.shape, k, parts.line(k)))
 }
 
-#[tactic(auto, unfolding(sheet_rules::specs::Checks::checked_sheet))]
 /// The sheet, or which check refuses it.
+#[tactic(auto, unfolding(sheet_rules::specs::Checks::checked_sheet))]
 pub fn check_sheet(s: &[u8]) -> Result<Sheet<'_>, Refusal>
     ensures checked { checked_sheet s.now ≡ checked_of result }
     ensures sheet { IfOk result (λ v. (v.parts.bytes.now ≡ s.now) × (shape_view v.parts.shape ≡ shape_of s.now)) }

@@ -7,7 +7,7 @@ ghost use Rattle.sheet.specs.Store.{UnitSum, EquationSum};
 use crate::operation::Operation;
 
 /// "Lines, N of 4 bytes: code, a, b, and a last byte that is 0."
-#[derive(Clone, Copy)]
+#[derive(Clone, Copy, Debug, PartialEq, Eq)]
 pub struct Line {
     pub code: u8,
     pub a: u8,
@@ -16,7 +16,7 @@ pub struct Line {
 }
 
 /// Where a row comes from: all exponents 0, an earlier line, a channel's record, a unit record, an unknown.
-#[derive(Clone, Copy)]
+#[derive(Clone, Copy, Debug, PartialEq, Eq)]
 pub enum Source {
     Nothing,
     Line(usize),
@@ -26,7 +26,7 @@ pub enum Source {
 }
 
 /// A row, or one row less a multiple of another.
-#[derive(Clone, Copy)]
+#[derive(Clone, Copy, Debug, PartialEq, Eq)]
 pub enum Sum {
     Alone(Source),
     Less(Source, i32, Source),
@@ -52,14 +52,14 @@ impl Line {
     {
         let a = usize::from(self.a);
         let b = usize::from(self.b);
-        match Operation::of(self.code) {
-            Some(Operation::Reading) => Sum::Alone(Source::Channel(a)),
-            Some(Operation::Add | Operation::Subtract) => Sum::Alone(Source::Line(a)),
-            Some(Operation::Multiply) => Sum::Less(Source::Line(a), -1, Source::Line(b)),
-            Some(Operation::Divide) => Sum::Less(Source::Line(a), 1, Source::Line(b)),
-            Some(Operation::Root) => Sum::Alone(Source::Unknown(b)),
-            Some(Operation::Stated) => Sum::Alone(Source::Record(b)),
-            Some(Operation::Number | Operation::LessThan) | None => Sum::Alone(Source::Nothing),
+        match Operation::try_from(self.code) {
+            Ok(Operation::Reading) => Sum::Alone(Source::Channel(a)),
+            Ok(Operation::Add | Operation::Subtract) => Sum::Alone(Source::Line(a)),
+            Ok(Operation::Multiply) => Sum::Less(Source::Line(a), -1, Source::Line(b)),
+            Ok(Operation::Divide) => Sum::Less(Source::Line(a), 1, Source::Line(b)),
+            Ok(Operation::Root) => Sum::Alone(Source::Unknown(b)),
+            Ok(Operation::Stated) => Sum::Alone(Source::Record(b)),
+            Ok(Operation::Number | Operation::LessThan) | Err(_) => Sum::Alone(Source::Nothing),
         }
     }
 
@@ -69,7 +69,7 @@ impl Line {
     {
         let a = Source::Line(usize::from(self.a));
         let b = usize::from(self.b);
-        match Operation::of(self.code)? {
+        match Operation::try_from(self.code).ok()? {
             Operation::Add | Operation::Subtract | Operation::LessThan => {
                 Some(Sum::Less(a, 1, Source::Line(b)))
             }

@@ -17,22 +17,28 @@ pub enum Operation {
     Stated,
 }
 
-impl Operation {
-    /// The operation of a code, where the table has one. The only place that knows the codes.
-    pub fn of(code: u8) -> Option<Operation>
-        ensures { code_of code ≡ code_for result }
-    {
+/// No operation has the code.
+#[derive(Clone, Copy, Debug, PartialEq, Eq)]
+pub struct NoSuchCode;
+
+// The only place that knows the codes.
+impl TryFrom<u8> for Operation {
+    type Error = NoSuchCode;
+
+    ghost try_from_gives = { λ code operation. code_of code ≡ code_for operation };
+
+    fn try_from(code: u8) -> Result<Operation, NoSuchCode> {
         match code {
-            0 => Some(Operation::Number),
-            1 => Some(Operation::Reading),
-            2 => Some(Operation::Add),
-            3 => Some(Operation::Subtract),
-            4 => Some(Operation::Multiply),
-            5 => Some(Operation::Divide),
-            6 => Some(Operation::Root),
-            7 => Some(Operation::LessThan),
-            8 => Some(Operation::Stated),
-            _ => None,
+            0 => Ok(Operation::Number),
+            1 => Ok(Operation::Reading),
+            2 => Ok(Operation::Add),
+            3 => Ok(Operation::Subtract),
+            4 => Ok(Operation::Multiply),
+            5 => Ok(Operation::Divide),
+            6 => Ok(Operation::Root),
+            7 => Ok(Operation::LessThan),
+            8 => Ok(Operation::Stated),
+            _ => Err(NoSuchCode),
         }
     }
 }

@@ -27,7 +27,7 @@ pub enum Refusal {
     /// "no such line", or no such channel
     Absent,
     /// "lent table too short"
-    Room,
+    TableTooShort,
     /// "wide", at a line
     Wide(usize),
     /// "clash", at a line
@@ -48,7 +48,7 @@ impl Refuses for Refusal {
             Refusal::Record(_) => 5,
             Refusal::Channel(_) => 6,
             Refusal::Line(_) => 7,
-            Refusal::Room => 8,
+            Refusal::TableTooShort => 8,
             Refusal::Wide(_) => 9,
             Refusal::Clash(_) => 10,
             Refusal::Absent => 11,
@@ -65,7 +65,7 @@ impl Refuses for Refusal {
             | Refusal::Counts
             | Refusal::Distances
             | Refusal::Absent
-            | Refusal::Room => 0,
+            | Refusal::TableTooShort => 0,
         }
     }
 
@@ -96,7 +96,7 @@ impl fmt::Display for Refusal {
             Refusal::Channel(c) => write!(f, "channel {c} names no unit record"),
             Refusal::Line(k) => write!(f, "line {k} has a wrong code, operand or last byte"),
             Refusal::Absent => f.write_str("there is no such line or channel"),
-            Refusal::Room => f.write_str("the lent table is too short"),
+            Refusal::TableTooShort => f.write_str("the lent table is too short"),
             Refusal::Wide(k) => write!(f, "line {k} passes the limit"),
             Refusal::Clash(k) => write!(f, "line {k} clashes"),
         }

@@ -4,7 +4,7 @@ ghost use Rattle.sheet_rules.specs.Shape.{shape_of, lines_at as rule_lines_at, c
 ghost use Rattle.sheet.specs.Views.{shape_view};
 
 /// How many there are of each, and of how many columns the rows are.
-#[derive(Clone, Copy)]
+#[derive(Clone, Copy, Debug, PartialEq, Eq)]
 pub struct Shape {
     pub unknown_columns: usize,
     pub columns: usize,
