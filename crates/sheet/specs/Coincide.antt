@@ -22,6 +22,7 @@ use Rattle.sheet.specs.declared.refusal.Refusal.{Refusal}
 pub record Settled (lent : List ℤ) (a : Answer) : Type 0 where
   pub coincide : (r r' : Result Progress Refusal) (t t' : List ℤ) → a ≡ answer_of number_of place_of r t → a ≡ answer_of number_of place_of r' t' → (r ≡ r') × (t ≡ t')
   pub refused : (r : Refusal) (t : List ℤ) → a ≡ answer_of number_of place_of (Err r) t → t ≡ lent
+  pub any_refused : (n i : ℕ) (t : List ℤ) → a ≡ refuses (suc n) i t → t ≡ lent
 
 abbrev Leaves : List ℤ → Answer → Type 0
 Leaves lent (heard zero i k f t) = Unit {0}
@@ -37,6 +38,7 @@ settled lent a l =
     record {
       coincide = same_answer number_of place_of number_some told_apart a;
       refused = λ r t e. left lent (number_of r) (place_of r) t (number_some r) (subst (Leaves lent) e l);
+      any_refused = λ n i t e. subst (Leaves lent) e l;
     }
 
 module _ (lent : List ℤ) where

@@ -16,7 +16,8 @@ use crate::units::Units;
 use elimination::progress::Progress;
 use elimination::room::Elimination;
 
-// Owns the room: fixed memory, as firmware has it.
+// Owns the room: fixed memory, as firmware has it (a row is 32 numbers; there are 256 lines and 24 unknowns). The elimination's own
+// owner stays beside it, since that crate knows no sheets.
 fn owner(sheet: &Sheet, question: Question, table: &mut [i32]) -> Result<Progress, Refusal>
     requires { (is_there (shape_in sheet.now) question ≡ true) × (room_for (shape_in sheet.now) question ≤ length table.old) }
     ensures { answer_on (shape_in sheet.now) (bytes_in sheet.now) question table.old (solved (shape_in sheet.now) (bytes_in sheet.now)) ≡ answer_of number_of place_of result table.new }
@@ -88,7 +89,7 @@ pub fn lines(s: &[u8]) -> &[u8]
     ensures { result.now ≡ lines_part s.now }
 {
     let Ok(sheet) = check_sheet(s) else {
-        return &[];
+        return &s[..0];
     };
     let shape = sheet.parts.shape;
     let from = shape.lines_at();

@@ -1,4 +1,4 @@
-// Checks 1 to 7.
+// Checks 1 to 7. Before check 4 there are no `Parts`, and what checks a line or a count needs no more of a sheet than its shape.
 ghost use Rattle.std.specs.Prelude.{◌≡◌, true, map, ◌≤◌, ◌<◌, length, IfOk, Ok};
 ghost use Rattle.whole.specs.Bytes.{signed};
 ghost use Rattle.whole.specs.Place.{found_of};

@@ -18,6 +18,7 @@ pub struct Line {
 /// Where a row comes from: all exponents 0, an earlier line, a channel's record, a unit record, an unknown.
 #[derive(Clone, Copy, Debug, PartialEq, Eq)]
 pub enum Source {
+    /// Not the want of a row: the row of zeros.
     Nothing,
     Line(usize),
     Channel(usize),
@@ -33,7 +34,7 @@ pub enum Sum {
 }
 
 impl Line {
-    /// The line at a place.
+    /// The line at a place: so its callers have it.
     pub fn read(s: &[u8], at: usize) -> Line
         requires { at + 3 < length s.now }
         ensures { line_view result ≡ line_at s.now at }

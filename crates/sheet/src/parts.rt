@@ -28,11 +28,13 @@ pub fn exponents(bytes: &[u8], out: &mut [i32])
     requires { length out.old ≡ length bytes.now }
     ensures { out.new ≡ map signed bytes.now }
 {
+    // By index: in a `for` over `zip` of `iter_mut` an invariant can't name the slice that is written.
     for (i, &b) in bytes.iter().enumerate() {
         out[i] = whole::bytes::exponent(b);
     }
 }
 
+// A part of the bytes is named by its ends: parts differ in size.
 impl Parts<'_> {
     /// The bytes of unit record i.
     pub fn record_bytes(&self, i: usize) -> &[u8]

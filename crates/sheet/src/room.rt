@@ -19,7 +19,7 @@ pub struct Work<'a> {
 }
 
 impl<'a> Work<'a> {
-    /// The work on the sheet of these units, with room for two rows.
+    /// The work on the sheet of these units, with room for two rows: what it asks is from here on the type's invariant.
     pub fn new(
         units: Units<'a>,
         elimination: Elimination<'a>,

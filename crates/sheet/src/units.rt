@@ -12,7 +12,8 @@ use crate::parts::Sheet;
 use crate::shape::Shape;
 use whole::number::PastLimit;
 
-/// The unit of line k goes into the store. Only `give` and `read` know how units are stored.
+/// The unit of line k goes into the store. Only `give` and `read` know how units are stored, end to end. They ask less than `Known` and
+/// `Units` hold (nothing of the bytes), so they stay functions of slices.
 pub fn give(store: &mut [i32], s: &[u8], shape: Shape, k: usize, unit: &[i32])
     requires { Stored (shape_view shape) s.now k store.old × (k < shape.lines) × (length unit.now ≡ shape.columns) × (unit.now ≡ unit_at (shape_view shape) s.now k) }
     ensures { Stored (shape_view shape) s.now (k + 1) store.new }
@@ -77,7 +78,7 @@ impl Known<'_> {
         }
     }
 
-    /// The equation of line k, if it has one.
+    /// The equation of line k. True: it has one. False is no failure, and the row is no answer: it is a room that is lent.
     pub fn equation(&self, k: usize, e: &mut [i32], other: &mut [i32]) -> Result<bool, PastLimit>
         requires { (k < self.now.done) × (length e.old ≡ self.now.sheet.parts.shape.columns) × (length other.old ≡ self.now.sheet.parts.shape.columns) }
         ensures { map judged (equations_at (shape_in self.now.sheet) (bytes_in self.now.sheet) k) ≡ stated_of result e.new }
