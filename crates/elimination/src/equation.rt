@@ -77,10 +77,7 @@ impl Elimination<'_> {
     {
         self.start();
         let w = self.equation.len();
-        let mut done = Progress {
-            rounds: 0,
-            free: whole::word::first(self.unknowns),
-        };
+        let mut done = Progress::start(self.unknowns);
         // Not by `chunks_exact`: an equation may have no columns.
         for i in 0..count {
             done = self
