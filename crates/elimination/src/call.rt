@@ -38,7 +38,7 @@ impl Elimination<'_> {
     }
 }
 
-/// Owns the room: fixed memory, as firmware has it.
+/// Owns the room: fixed memory, as firmware has it. The owner of a sheet's room is in crate `sheet`: this crate knows no sheets.
 fn owner(v: usize, es: &[i32], count: usize, table: &mut [i32]) -> Result<Progress, Stopped>
     requires { (v ≤ 24) × (32 * v ≤ length table.old) × (length es.now ≡ count * 32) }
     ensures { on_verdict table.old (rule_eliminate quotient fuel 24 v 32 count es.now) ≡ answer_of stopped_number stopped_place result table.new }

@@ -50,6 +50,7 @@ impl Elimination<'_> {
     {
         let u = self.unknown_columns;
         let v = self.unknowns;
+        // Named first: of a field lent as `&[T]` a proof keeps only the length.
         let sums = &mut *self.sums;
         let table = &mut *self.table;
         let equation = &mut *self.equation;
