@@ -1,6 +1,6 @@
 // An answer as its line has it.
 use elimination::progress::Progress;
-use elimination::refusal::{Refusal, Refuses};
+use elimination::refusal::Refuses;
 use std::fmt;
 
 /// The numbers of an answer: an accepted one has rounds and a mask, and others have a place.
@@ -12,8 +12,8 @@ pub struct Heard {
     mask: u64,
 }
 
-impl From<Result<Progress, Refusal>> for Heard {
-    fn from(answer: Result<Progress, Refusal>) -> Heard {
+impl<R: Refuses> From<Result<Progress, R>> for Heard {
+    fn from(answer: Result<Progress, R>) -> Heard {
         match answer {
             Ok(done) => Heard {
                 number: 0,

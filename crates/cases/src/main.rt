@@ -15,6 +15,7 @@ use std::io::{self, Read};
 // Each case, until the pack ends or breaks. A line is written whole.
 fn all(rt: &impl Print, input: &mut impl Read, alloc: Global) -> Result<(), Stop> {
     pack::start(input)?;
+    // A count stands for a loop that waits on input: a loop has to end.
     for _ in 0..u64::MAX {
         let Some(header) = Header::read(input)? else {
             break;

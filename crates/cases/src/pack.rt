@@ -116,6 +116,7 @@ pub fn read_full<R: Read>(input: &mut R, room: &mut [u8]) -> io::Result<usize>
 
 /// Takes the bytes with which a pack begins.
 pub fn start(input: &mut impl Read) -> Result<(), Stop> {
+    // Exactly what is read: nothing beside it counts.
     let mut magic = [0; 8];
     read_full(input, &mut magic)?;
     if magic != *b"BENCHPK1" {
@@ -127,6 +128,7 @@ pub fn start(input: &mut impl Read) -> Result<(), Stop> {
 impl Header {
     /// The next case's header. There is none where the pack ends.
     pub fn read(input: &mut impl Read) -> Result<Option<Header>, Stop> {
+        // Exactly what is read: nothing beside it counts.
         let mut bytes = [0; 16];
         match read_full(input, &mut bytes)? {
             0 => Ok(None),

@@ -10,7 +10,7 @@ use std::io::Read;
 /// A system, and the room of the table that its call is lent.
 #[derive(Debug, Drop)]
 pub struct System {
-    v: u32,
+    unknowns: usize,
     numbers: Vec<i32>,
     room: usize,
 }
@@ -33,11 +33,12 @@ impl System {
             return Err(Stop::from(NotAPack::Header));
         }
         let body = pack::body(input, alloc, header.length)?;
-        let [v, numbers @ ..] = body.as_chunks::<4>().0 else {
+        let [unknowns, numbers @ ..] = body.as_chunks::<4>().0 else {
             unreachable!()
         };
         Ok(System {
-            v: u32::from_le_bytes(*v),
+            // By `as`: std has no `From<u32>` for `usize`, and `try_from` would add a failure that can't be.
+            unknowns: u32::from_le_bytes(*unknowns) as usize,
             numbers: numbers
                 .iter()
                 .map(|&n| i32::from_le_bytes(n))
@@ -49,7 +50,7 @@ impl System {
     /// The line of the elimination's answer. Before the call, number i of its table is 7000 + i.
     pub fn answer_line(&self, alloc: Global) -> Result<String, AllocError> {
         let mut table: Vec<i32> = (7000..).take(self.room).collect(alloc)?;
-        let heard = Heard::from(call::eliminate(self.v as usize, &self.numbers, &mut table));
+        let heard = Heard::from(call::eliminate(self.unknowns, &self.numbers, &mut table));
         format!(in alloc; "E {heard} {}\n", Table(&table))
     }
 }

@@ -12,6 +12,13 @@ use crate::progress::{Progress, Stopped};
 use crate::refusal::Refusal;
 use crate::room::Elimination;
 
+/// Columns of unknowns, used or not.
+const UNKNOWN_COLUMNS: usize = 24;
+/// Columns of a row.
+const COLUMNS: usize = 32;
+/// Numbers of a table that has a row for each column of unknowns.
+const TABLE_LENGTH: usize = UNKNOWN_COLUMNS * COLUMNS;
+
 /// The front of the caller's table takes the rows of the own table, where they are accepted.
 pub fn publish(
     verdict: Result<Progress, Stopped>,
@@ -38,21 +45,21 @@ impl Elimination<'_> {
     }
 }
 
-/// Owns the room: fixed memory, as firmware has it.
+/// Owns the room: fixed memory, as firmware has it. The owner of a sheet's room is in crate `sheet`: this crate knows no sheets.
 fn owner(v: usize, es: &[i32], count: usize, table: &mut [i32]) -> Result<Progress, Stopped>
     requires { (v ≤ 24) × (32 * v ≤ length table.old) × (length es.now ≡ count * 32) }
     ensures { on_verdict table.old (rule_eliminate quotient fuel 24 v 32 count es.now) ≡ answer_of stopped_number stopped_place result table.new }
 {
-    let mut own = [0i32; 768];
-    let mut equation = [0i32; 32];
-    let mut quotients = [0i32; 32];
-    let mut sums = [0i64; 32];
+    let mut own = [0i32; TABLE_LENGTH];
+    let mut equation = [0i32; COLUMNS];
+    let mut quotients = [0i32; COLUMNS];
+    let mut sums = [0i64; COLUMNS];
     let mut elimination = Elimination {
-        table: &mut own[..32 * v],
+        table: &mut own[..COLUMNS * v],
         equation: &mut equation,
         quotients: &mut quotients,
         sums: &mut sums,
-        unknown_columns: 24,
+        unknown_columns: UNKNOWN_COLUMNS,
         unknowns: v,
     };
     elimination.work(es, count, table)
@@ -62,17 +69,23 @@ fn owner(v: usize, es: &[i32], count: usize, table: &mut [i32]) -> Result<Progre
 pub fn eliminate(v: usize, numbers: &[i32], table: &mut [i32]) -> Result<Progress, Refusal>
     ensures { eliminated v numbers.now table.old ≡ answer_of number_of place_of result table.new }
 {
-    if 24 < v {
+    if UNKNOWN_COLUMNS < v {
         return Err(Refusal::TooManyUnknowns);
     }
-    if numbers.len() % 32 != 0 {
+    if numbers.len() % COLUMNS != 0 {
         return Err(Refusal::UnevenLength);
     }
-    let count = numbers.len() / 32;
-    if let Some(equation) = crate::columns::first_used(numbers, 32, 24, v, count) {
+    let count = numbers.len() / COLUMNS;
+    if let Some(equation) = crate::columns::first_used(
+        numbers,
+        COLUMNS,
+        UNKNOWN_COLUMNS,
+        v,
+        count,
+    ) {
         return Err(Refusal::UnusedColumn(equation));
     }
-    if table.len() < 32 * v {
+    if table.len() < COLUMNS * v {
         return Err(Refusal::TableTooShort);
     }
     Ok(owner(v, numbers, count, table)?)

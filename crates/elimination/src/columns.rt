@@ -16,5 +16,6 @@ pub fn first_used(es: &[i32], w: usize, u: usize, v: usize, count: usize) -> Opt
     requires { (length es.now ≡ count * w) × (v ≤ u) × (u ≤ w) }
     ensures { first_used u v w count 0 es.now ≡ found_of result }
 {
+    // Parts by their ends: an equation may have no columns, which `chunks_exact` doesn't take.
     (0..count).find(|&i| !unused(&es[i * w..(i + 1) * w], u, v))
 }

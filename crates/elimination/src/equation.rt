@@ -50,6 +50,7 @@ impl Elimination<'_> {
     {
         let u = self.unknown_columns;
         let v = self.unknowns;
+        // Named first: of a field lent as `&[T]` a proof keeps only the length.
         let sums = &mut *self.sums;
         let table = &mut *self.table;
         let equation = &mut *self.equation;
@@ -77,10 +78,7 @@ impl Elimination<'_> {
     {
         self.start();
         let w = self.equation.len();
-        let mut done = Progress {
-            rounds: 0,
-            free: whole::word::first(self.unknowns),
-        };
+        let mut done = Progress::start(self.unknowns);
         // Not by `chunks_exact`: an equation may have no columns.
         for i in 0..count {
             done = self

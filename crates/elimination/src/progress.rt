@@ -1,5 +1,6 @@
 // How far the work is, and what ends it.
 ghost use Rattle.std.specs.Prelude.{◌≡◌, ◌+◌, ◌<◌, ◌^◌};
+ghost use Rattle.whole.specs.Word.{first_set};
 ghost use Rattle.elimination.specs.declared.progress.Stop.TheVariants.{Wide};
 
 use whole::number::PastLimit;
@@ -12,6 +13,17 @@ pub struct Progress {
 }
 
 impl Progress {
+    /// No round yet, and the first `unknowns` bits set.
+    pub fn start(unknowns: usize) -> Progress
+        requires { unknowns < 64 }
+        ensures { (result.rounds ≡ 0) × (result.free ≡ first_set unknowns) }
+    {
+        Progress {
+            rounds: 0,
+            free: whole::word::first(unknowns),
+        }
+    }
+
     /// One round more, with the word that it leaves.
     pub fn after_round(self, free: u64) -> Progress
         requires { self.rounds + 1 < 2 ^ 32 }
@@ -27,7 +39,9 @@ impl Progress {
 /// Why an equation ends the work.
 #[derive(Clone, Copy, Debug, PartialEq, Eq)]
 pub enum Stop {
+    /// No units agree.
     Clash,
+    /// A number passed the limit.
     Wide,
 }
 

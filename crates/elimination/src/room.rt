@@ -22,6 +22,7 @@ pub struct Elimination<'a> {
     ghost quotients_room: { length quotients.now ≡ length equation.now },
 }
 
+// A method for each slice: of one that lies in a struct's struct, a proof keeps nothing where the outer struct lends it.
 impl Elimination<'_> {
     /// The front of `to` becomes the table; the rest stays.
     pub fn write_table(&self, to: &mut [i32])

@@ -42,20 +42,21 @@ impl Elimination<'_> {
     }
 
     /// Whether each unknown of the equation is 0.
-    fn has_no_unknowns(&self) -> bool
+    fn unknowns_are_zero(&self) -> bool
         ensures { result ≡ all_zero (take self.now.unknown_columns self.now.equation.now) }
     {
         row::test::all_zero(&self.equation[..self.unknown_columns])
     }
 
     /// Whether each base of the equation is 0.
-    fn has_no_bases(&self) -> bool
+    fn bases_are_zero(&self) -> bool
         ensures { result ≡ all_zero (drop self.now.unknown_columns self.now.equation.now) }
     {
         row::test::all_zero(&self.equation[self.unknown_columns..])
     }
 
-    /// The equation becomes its remainders by its number at j, made positive, which is returned.
+    /// The equation, with its number at j made positive, is divided by that number, which is returned: `equation` becomes the
+    /// remainders, and `quotients` the quotients.
     pub fn divide_by(&mut self, j: usize) -> i32
         requires { (all_in_limit self.old.equation.now ≡ true) × PickedColumn (length self.old.equation.now) j self.old.equation.now }
         ensures divided { Divided (upright_row self.old.equation.now j) j result self.new.equation.now self.new.quotients.now }
@@ -88,8 +89,8 @@ impl Elimination<'_> {
         ensures room { SameRoom self.old self.new }
     {
         let p = self.divide_by(j);
-        if self.has_no_unknowns() {
-            if !self.has_no_bases() {
+        if self.unknowns_are_zero() {
+            if !self.bases_are_zero() {
                 return Err(Stop::Clash);
             }
             self.swap_rows(j)?;
@@ -110,7 +111,7 @@ impl Elimination<'_> {
     {
         match self.smallest() {
             Some(picked) => self.turn(free, picked.column),
-            None if self.has_no_bases() => Ok(Turned::Holds),
+            None if self.bases_are_zero() => Ok(Turned::Holds),
             None => Err(Stop::Clash),
         }
     }

@@ -1,5 +1,5 @@
-// Rows added up in 64 bits, then judged complete and narrowed. A loop that writes one slice from another writes by index: of what
-// a `zip` over `iter_mut` wrote, std's contracts say only how long it is.
+// Rows added up in 64 bits, then judged complete and narrowed. A loop that writes one slice from another writes by index: in a
+// `for` over a `zip` of `iter_mut` an invariant can't name the slice that is written, and std's contracts say only how long it is.
 ghost use Rattle.std.specs.Prelude.{◌≡◌, true, ◌≤◌, length};
 ghost use Rattle.row.specs.Row.{plus};
 ghost use Rattle.row.specs.Judged.{judged, judged_of};
@@ -26,6 +26,7 @@ pub fn add_rows(sums: &mut [i64], table: &[i32], numbers: &[i32])
     let w = sums.len();
     for (j, &f) in numbers.iter().enumerate() {
         if f != 0 {
+            // Parts by their ends: a row may have no columns, which `chunks_exact` doesn't take.
             let a = j * w;
             add_row(sums, &table[a..a + w], f);
         }

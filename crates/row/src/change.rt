@@ -1,5 +1,5 @@
-// Rows changed in place. A loop that writes one slice from another writes by index: of what a `zip` over `iter_mut` wrote, std's
-// contracts say only how long it is.
+// Rows changed in place. A loop that writes one slice from another writes by index: in a `for` over a `zip` of `iter_mut` an
+// invariant can't name the slice that is written, and std's contracts say only how long it is.
 ghost use Rattle.std.specs.Prelude.{◌≡◌, true, ◌++◌, ◌≤◌, ◌<◌, pos, length, drop, replicate, ◌<ℤ◌};
 ghost use Rattle.row.specs.Row.{all_in_limit, less as row_less};
 ghost use Rattle.row.specs.Judged.{judged, judged_of};
@@ -8,6 +8,7 @@ ghost use Rattle.row.specs.Table.{itself as itself_row};
 
 use whole::number::{self, PastLimit};
 
+/// Each number becomes its negation.
 pub fn negate(r: &mut [i32])
     requires { all_in_limit r.old ≡ true }
     ensures { r.new ≡ negated r.old }
@@ -48,6 +49,7 @@ pub fn copy(from: &[i32], to: &mut [i32])
     to[..from.len()].copy_from_slice(from);
 }
 
+/// Each number becomes 0.
 pub fn clear(r: &mut [i32])
     ensures { r.new ≡ replicate (length r.old) (pos 0) }
 {

@@ -2,7 +2,7 @@
 ghost use Rattle.std.specs.Prelude.{◌+◌, ◌<◌, get_or, length, ◌≡◌};
 ghost use Rattle.whole.specs.Bytes.{little_endian, signed};
 
-/// The 16-bit number of the two bytes at a place, the low byte first.
+/// The 16-bit number of the two bytes at a place, the low byte first. By a place: so its callers have it.
 pub fn number_at(s: &[u8], at: usize) -> usize
     requires { at + 1 < length s.now }
     ensures { result ≡ little_endian (get_or s.now at 0) (get_or s.now (at + 1) 0) }

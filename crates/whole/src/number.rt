@@ -22,7 +22,7 @@ impl fmt::Display for PastLimit {
 
 impl Error for PastLimit {}
 
-/// x in 64 bits: std's, under the name that callers have.
+/// x in 64 bits: `i64::from`, kept since it is public.
 pub fn widen(x: i32) -> i64
     ensures { result ≡ x }
 {
@@ -54,14 +54,14 @@ pub fn judge(x: i64) -> Result<i32, PastLimit>
     Ok(narrow(x))
 }
 
-/// The size of x, which for -2^31 only an unsigned number holds: std's, under the name that callers have.
+/// The size of x, which for -2^31 only an unsigned number holds: `unsigned_abs`, kept since it is public.
 pub fn size(x: i32) -> u32
     ensures { result ≡ nat_abs x }
 {
     x.unsigned_abs()
 }
 
-/// The negation, under the name that callers have.
+/// The negation: `-`, kept since it is public.
 pub fn minus(x: i32) -> i32
     requires { in_limit x ≡ true }
     ensures { result ≡ neg_ℤ x }

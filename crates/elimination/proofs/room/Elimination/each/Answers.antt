@@ -7,7 +7,7 @@ use Rattle.elimination.proofs.Courses.{lining_none, lining_end, lining_stop, lin
 use Rattle.elimination.proofs.room.Elimination.each.Goals as goal
 
 pub loop-i-init : goal.loop-i-init
-loop-i-init c = (c.start.ensures.room, rw (c.first.ensures, c.start.ensures.room.unknowns, zero-mul) (lining_none c.requires c.start.new.self.table.now c.start.ensures.begins))
+loop-i-init c = (c.start.ensures.room, rw (c.start-done.ensures.0, c.start-done.ensures.1, c.start.ensures.room.unknowns, zero-mul) (lining_none c.requires c.start.new.self.table.now c.start.ensures.begins))
 
 pub returns-in_err-done-clause-verdict : goal.returns-in_err-done-clause-verdict
 returns-in_err-done-clause-verdict c =
