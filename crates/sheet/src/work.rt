@@ -34,10 +34,7 @@ impl Work<'_> {
     {
         self.elimination.start();
         let shape = self.units.sheet.parts.shape;
-        let mut done = Progress {
-            rounds: 0,
-            free: whole::word::first(shape.unknowns),
-        };
+        let mut done = Progress::start(shape.unknowns);
         for k in 0..shape.lines {
             done = self.line(done).map_err(|why| Stopped { why, at: k })?;
         }
