@@ -115,7 +115,7 @@ impl Units<'_> {
     }
 
     /// The unit of the next line, worked out and stored.
-    pub fn next(&mut self, unit: &mut [i32], other: &mut [i32]) -> Result<(), PastLimit>
+    pub fn add_next(&mut self, unit: &mut [i32], other: &mut [i32]) -> Result<(), PastLimit>
         requires { (self.old.done < self.old.sheet.parts.shape.lines) × (length unit.old ≡ self.old.sheet.parts.shape.columns) × (length other.old ≡ self.old.sheet.parts.shape.columns) }
         ensures judged { judged (unit_at (shape_in self.old.sheet) (bytes_in self.old.sheet) self.old.done) ≡ judged_of result unit.new }
         ensures done { OnOk result (self.new.done ≡ self.old.done + 1) }

@@ -11,14 +11,14 @@ use elimination::progress::{Progress, Stop, Stopped};
 
 impl Work<'_> {
     /// The next line: its unit, then its equation through the elimination.
-    pub fn line(&mut self, done: Progress) -> Result<Progress, Stop>
+    pub fn work_line(&mut self, done: Progress) -> Result<Progress, Stop>
         requires { (self.old.units.done < self.old.units.sheet.parts.shape.lines) × Stepping (shape_in self.old.units.sheet) done self.old.elimination.table.now }
         ensures outcome { line_outcome (shape_in self.old.units.sheet) (bytes_in self.old.units.sheet) self.old.units.done self.old.elimination.table.now done.rounds done.free ≡ outcome_of result self.new.elimination.table.now }
         ensures done { OnOk result (self.new.units.done ≡ self.old.units.done + 1) }
         ensures room { SameWork self.old self.new }
     {
         let k = self.units.done;
-        self.units.next(self.row, self.other)?;
+        self.units.add_next(self.row, self.other)?;
         if !self.units.known().equation(k, self.row, self.other)? {
             return Ok(done);
         }
@@ -36,7 +36,7 @@ impl Work<'_> {
         let shape = self.units.sheet.parts.shape;
         let mut done = Progress::start(shape.unknowns);
         for k in 0..shape.lines {
-            done = self.line(done).map_err(|why| Stopped { why, at: k })?;
+            done = self.work_line(done).map_err(|why| Stopped { why, at: k })?;
         }
         Ok(done)
     }

@@ -13,16 +13,16 @@ loop-k-init c =
 pub returns-in_err-done-clause-verdict : goal.returns-in_err-done-clause-verdict
 returns-in_err-done-clause-verdict c =
     let l = c.loop-k.invariant in
-    let m = mapped_err c.line.result _ c.map_err.ensures.cases c.in_err-done.was in
+    let m = mapped_err c.work_line.result _ c.map_err.ensures.cases c.in_err-done.was in
     let k = m.1.1 in
-    lining_stop l.2 c.loop-k-test.true m.0 _ (rw (l.0.sheet, l.1, m.1.0) at c.line.ensures.outcome) c.in_err-done.field-0.0 (search rules) c.from_residual.result
+    lining_stop l.2 c.loop-k-test.true m.0 _ (rw (l.0.sheet, l.1, m.1.0) at c.work_line.ensures.outcome) c.in_err-done.field-0.0 (search rules) c.from_residual.result
     c.from_residual.ensures.1
 
 pub loop-k-preserved : goal.loop-k-preserved
 loop-k-preserved c =
     let l = c.loop-k.invariant in
-    let o = mapped_ok c.line.result _ c.map_err.ensures.cases c.in_ok-done.was in
-    let n = rw o at c.line.ensures in
+    let o = mapped_ok c.work_line.result _ c.map_err.ensures.cases c.in_ok-done.was in
+    let n = rw o at c.work_line.ensures in
     (work_again l.0 n.room, rw l.1 at n.done, lining_more l.2 c.loop-k-test.true c.args.self.now.units.sheet.formed (rw (l.0.sheet, l.1) at n.outcome))
 
 pub returns-clause-verdict : goal.returns-clause-verdict
