@@ -24,7 +24,7 @@ PATTERNS = [
     ('4', 'a function that prints or converts by hand',
      r'^(?:pub )?fn (?:wide|widen|narrow|size|minus|signed|number|number_at|exponent|spoken|heard|digits|put|word|words|table|both_below)\('),
     ('6', 'a part of a buffer by its two ends', r'let b = a \+ |\bat \+ \d+|\[\w+\.\.\w+ \+ |\* \w+\.\.\('),
-    ('6', 'a fixed buffer', r'\[0(?:u8|i32|i64)?; \d+\]'),
+    ('6', 'a fixed buffer', r'\[0(?:u8|i32|i64)?; (?:\d+|[A-Z_]+)\]'),
     ('7', 'a function pointer, a boxed closure or a dyn', r'\bdyn \w|: fn\('),
 ]
 # What the heads of functions repeat: a fact, or a parameter that always travels with another.
@@ -65,7 +65,7 @@ def heads(files):
     for name, text in files:
         for fn, line, head in functions(text):
             code, place = code_of(head), f'{name}:{line} {fn}'
-            if '-> bool' in code and '&mut [' in code:
+            if re.search(r'-> (?:bool|Result<bool, \w+>)', code) and '&mut [' in code:
                 flags.append(place)
             if 'Result<bool>' in code:
                 results.append(place)

@@ -81,6 +81,7 @@ pub extern "C" fn bench_lines(sheet: &[u8]) -> BenchPart
         };
     }
     let start = sheet.len() - 16 - n;
+    // C's type, by `as`, as above.
     BenchPart {
         start: start as u64,
         length: n as u64,

@@ -16,6 +16,7 @@ use crate::round::Turned;
 use whole::number::PastLimit;
 
 impl Elimination<'_> {
+    // `Ready` as in round.rt.
     /// The rounds of the equation, "and repeat with what remains": the smallest unknown's size falls at each call.
     pub fn solve(&mut self, done: Progress) -> Result<Progress, Stop>
         requires { Ready self.old × Countable self.old.unknown_columns done.rounds self.old.equation.now }

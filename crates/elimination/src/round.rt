@@ -34,6 +34,7 @@ pub fn upright(e: &mut [i32], j: usize)
     }
 }
 
+// `Ready` is asked for, and is no invariant of the room: an equation is judged after it was replaced.
 impl Elimination<'_> {
     fn smallest(&self) -> Option<Picked>
         ensures { pick_of result ≡ smallest_pick (take self.now.unknown_columns self.now.equation.now) }

@@ -34,6 +34,7 @@ fn good_counts(s: &[u8], shape: Shape) -> bool
         && shape.records <= 64
         && shape.channels <= 16
         && shape.lines <= 256
+        // One byte, and nothing plainer.
         && s[t + 9] == 0
 }
 
