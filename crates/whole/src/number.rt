@@ -84,6 +84,7 @@ pub fn plus_times(x: i64, f: i32, y: i32) -> i64
     x + i64::from(f) * i64::from(y)
 }
 
+/// A quotient and its remainder.
 #[derive(Clone, Copy, Debug, PartialEq, Eq)]
 pub struct Divided {
     pub q: i32,
