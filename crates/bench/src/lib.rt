@@ -10,6 +10,7 @@ ghost use Rattle.bench.specs.Spoken.{spoken_of};
 use elimination::progress::Progress;
 use elimination::refusal::Refuses;
 
+/// An answer as C has it: the numbers of both cases.
 #[repr(C)]
 #[derive(Clone, Copy, Debug, PartialEq, Eq)]
 pub struct BenchAnswer {
@@ -62,6 +63,7 @@ pub extern "C" fn bench_line(sheet: &[u8], k: usize, table: &mut [i32]) -> Bench
     BenchAnswer::from(sheet::call::ask_line(sheet, k, table))
 }
 
+/// A part as C has it: 0, 0 when empty.
 #[repr(C)]
 #[derive(Clone, Copy, Debug, PartialEq, Eq)]
 pub struct BenchPart {

@@ -3,41 +3,16 @@ use elimination::progress::Progress;
 use elimination::refusal::Refuses;
 use std::fmt;
 
-/// The numbers of an answer: an accepted one has rounds and a mask, and others have a place.
-#[derive(Clone, Copy, Debug)]
-pub struct Heard {
-    number: u32,
-    place: usize,
-    rounds: u32,
-    mask: u64,
-}
+/// An answer as four numbers: number, place, rounds and mask. An accepted one has number and place 0, and a refusal rounds and mask.
+#[derive(Clone, Copy)]
+pub struct Heard<R>(pub Result<Progress, R>);
 
-impl<R: Refuses> From<Result<Progress, R>> for Heard {
-    fn from(answer: Result<Progress, R>) -> Heard {
-        match answer {
-            Ok(done) => Heard {
-                number: 0,
-                place: 0,
-                rounds: done.rounds,
-                mask: done.free,
-            },
-            Err(refusal) => Heard {
-                number: refusal.number(),
-                place: refusal.place(),
-                rounds: 0,
-                mask: 0,
-            },
-        }
-    }
-}
-
-impl fmt::Display for Heard {
+impl<R: Refuses> fmt::Display for Heard<R> {
     fn fmt<W: fmt::Write>(&self, f: &mut fmt::Formatter<W>) -> fmt::Result {
-        write!(
-            f,
-            "{} {} {} {}",
-            self.number, self.place, self.rounds, self.mask
-        )
+        match self.0 {
+            Ok(done) => write!(f, "0 0 {} {}", done.rounds, done.free),
+            Err(refusal) => write!(f, "{} {} 0 0", refusal.number(), refusal.place()),
+        }
     }
 }
 

@@ -50,7 +50,7 @@ impl System {
     /// The line of the elimination's answer. Before the call, number i of its table is 7000 + i.
     pub fn answer_line(&self, alloc: Global) -> Result<String, AllocError> {
         let mut table: Vec<i32> = (7000..).take(self.room).collect(alloc)?;
-        let heard = Heard::from(call::eliminate(self.unknowns, &self.numbers, &mut table));
+        let heard = Heard(call::eliminate(self.unknowns, &self.numbers, &mut table));
         format!(in alloc; "E {heard} {}\n", Table(&table))
     }
 }

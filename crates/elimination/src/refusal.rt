@@ -69,6 +69,7 @@ impl Refuses for Refusal {
     ghost told_apart = { refusals_apart };
 }
 
+// `?` needs one for each type of refusal: there is no blanket impl of a foreign trait.
 impl From<Stopped> for Refusal {
     ghost from_gives = { λ stopped refusal. refusal ≡ stopped_as stopped };
 

@@ -109,6 +109,7 @@ pub work_again : {w x y : Work} → SameWork w x → SameWork x y → SameWork w
 work_again A B =
     record {
       sheet = B.sheet ∙ A.sheet;
+      store_room = B.store_room ∙ A.store_room;
       store = B.store ∙ A.store;
       elimination = room_again A.elimination B.elimination;
       row = B.row ∙ A.row;

@@ -1,5 +1,5 @@
 -- Questions: what is asked of a sheet, and what the answer is.
-use Rattle.std.specs.Prelude.{Bool, true, List, ℕ, ◌*◌, ltb, ℤ}
+use Rattle.std.specs.Prelude.{◌≡◌, Bool, true, List, ℕ, ◌*◌, ◌≤◌, ltb, ℤ, length}
 use Rattle.elimination_rules.specs.Equation.{Verdict}
 use Rattle.elimination_rules.specs.Answer.{Answer}
 use Rattle.elimination_rules.specs.Call.{on_verdict}
@@ -19,6 +19,11 @@ abbrev pub room_for : Shape → Q.Question → ℕ
 room_for sh Q.TheVariants.Table = sh.columns * sh.unknowns
 room_for sh (Q.TheVariants.Line k) = sh.columns
 room_for sh (Q.TheVariants.Channel c) = sh.columns
+
+-- There is what is asked for, and room for it in the lent table.
+pub record Askable (sh : Shape) (question : Q.Question) (lent : List ℤ) : Type 0 where
+  pub there : is_there sh question ≡ true
+  pub room : room_for sh question ≤ length lent
 
 -- The answer of a well-formed sheet that came to a verdict.
 abbrev pub answer_on : Shape → List ℕ → Q.Question → List ℤ → Verdict → Answer

@@ -11,7 +11,7 @@ ghost use Rattle.sheet.specs.Sheets.{shape_in, bytes_in, source_in};
 ghost use Rattle.sheet.specs.Store.{Sourced};
 ghost use Rattle.sheet.specs.Refusals.{number_of, place_of};
 ghost use Rattle.sheet.specs.Rooms.{SameWork};
-ghost use Rattle.sheet.specs.Asked.{is_there, room_for, answer_on};
+ghost use Rattle.sheet.specs.Asked.{is_there, room_for, Askable, answer_on};
 
 use crate::line::Source;
 use crate::refusal::Refusal;
@@ -29,6 +29,7 @@ pub enum Question {
 }
 
 impl Question {
+    // Nothing else of a sheet than its shape is needed.
     /// Whether there is such a line or channel.
     pub fn is_there(self, shape: Shape) -> bool
         ensures { result ≡ is_there (shape_view shape) self }
@@ -61,6 +62,7 @@ impl Work<'_> {
         ensures judged { judged (replaced self.old.elimination.unknown_columns self.old.elimination.unknowns self.old.elimination.table.now (source_in self.old.units.sheet self.old.units.done source)) ≡ judged_of result self.new.elimination.equation.now }
         ensures table { self.new.elimination.table.now ≡ self.old.elimination.table.now }
         ensures done { self.new.units.done ≡ self.old.units.done }
+        ensures store { self.new.units.store.now ≡ self.old.units.store.now }
         ensures room { SameWork self.old self.new }
     {
         self.units.known().load(source, self.row);
@@ -76,10 +78,11 @@ impl Work<'_> {
     ) -> Result<Progress, Refusal>
         requires worked { solved (shape_in self.old.units.sheet) (bytes_in self.old.units.sheet) ≡ verdict_of verdict self.old.elimination.table.now }
         requires all_done { OnOk verdict (self.old.units.done ≡ self.old.units.sheet.parts.shape.lines) }
-        requires asked { (is_there (shape_in self.old.units.sheet) question ≡ true) × (room_for (shape_in self.old.units.sheet) question ≤ length table.old) }
+        requires asked { Askable (shape_in self.old.units.sheet) question table.old }
         ensures answer { answer_on (shape_in self.old.units.sheet) (bytes_in self.old.units.sheet) question table.old (solved (shape_in self.old.units.sheet) (bytes_in self.old.units.sheet)) ≡ answer_of number_of place_of result table.new }
         ensures table { self.new.elimination.table.now ≡ self.old.elimination.table.now }
         ensures done { self.new.units.done ≡ self.old.units.done }
+        ensures store { self.new.units.store.now ≡ self.old.units.store.now }
         ensures room { SameWork self.old self.new }
     {
         let done = verdict?;
@@ -98,7 +101,7 @@ impl Work<'_> {
 
     /// The sheet worked, and the answer to a question.
     pub fn answer(&mut self, question: Question, table: &mut [i32]) -> Result<Progress, Refusal>
-        requires { (self.old.units.done ≡ 0) × (is_there (shape_in self.old.units.sheet) question ≡ true) × (room_for (shape_in self.old.units.sheet) question ≤ length table.old) }
+        requires { (self.old.units.done ≡ 0) × Askable (shape_in self.old.units.sheet) question table.old }
         ensures answer { answer_on (shape_in self.old.units.sheet) (bytes_in self.old.units.sheet) question table.old (solved (shape_in self.old.units.sheet) (bytes_in self.old.units.sheet)) ≡ answer_of number_of place_of result table.new }
         ensures room { SameWork self.old self.new }
     {

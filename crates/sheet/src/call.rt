@@ -5,7 +5,7 @@ ghost use Rattle.sheet_rules.specs.Work.{solved};
 ghost use Rattle.sheet_rules.specs.Calls.{check as rule_check, ask_line, ask_channel, lines_part};
 ghost use Rattle.sheet.specs.Sheets.{shape_in, bytes_in};
 ghost use Rattle.sheet.specs.Refusals.{number_of, place_of};
-ghost use Rattle.sheet.specs.Asked.{is_there, room_for, answer_on, asked};
+ghost use Rattle.sheet.specs.Asked.{Askable, answer_on, asked};
 
 use crate::ask::Question;
 use crate::check::check_sheet;
@@ -19,7 +19,7 @@ use elimination::room::Elimination;
 // Owns the room: fixed memory, as firmware has it (a row is 32 numbers; there are 256 lines and 24 unknowns). The elimination's own
 // owner stays beside it, since that crate knows no sheets.
 fn owner(sheet: &Sheet, question: Question, table: &mut [i32]) -> Result<Progress, Refusal>
-    requires { (is_there (shape_in sheet.now) question ≡ true) × (room_for (shape_in sheet.now) question ≤ length table.old) }
+    requires { Askable (shape_in sheet.now) question table.old }
     ensures { answer_on (shape_in sheet.now) (bytes_in sheet.now) question table.old (solved (shape_in sheet.now) (bytes_in sheet.now)) ≡ answer_of number_of place_of result table.new }
 {
     let mut store = [0i32; 8192];
@@ -92,6 +92,7 @@ pub fn lines(s: &[u8]) -> &[u8]
         return &s[..0];
     };
     let shape = sheet.parts.shape;
+    // By its ends: parts differ in size.
     let from = shape.lines_at();
     &s[from..from + 4 * shape.lines]
 }

@@ -9,6 +9,7 @@ use crate::operation::Operation;
 /// "Lines, N of 4 bytes: code, a, b, and a last byte that is 0."
 #[derive(Clone, Copy, Debug, PartialEq, Eq)]
 pub struct Line {
+    /// A byte: the rules speak of every byte.
     pub code: u8,
     pub a: u8,
     pub b: u8,

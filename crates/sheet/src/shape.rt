@@ -15,7 +15,7 @@ pub struct Shape {
 }
 
 impl Shape {
-    /// The counts of the trailer.
+    /// The counts of the trailer. One fact is asked for: no type for it.
     pub fn read(s: &[u8]) -> Shape
         requires { 16 ≤ length s.now }
         ensures { shape_view result ≡ shape_of s.now }

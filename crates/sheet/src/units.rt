@@ -31,7 +31,7 @@ pub fn read(store: &[i32], s: &[u8], shape: Shape, k: usize, i: usize, out: &mut
     row::change::copy(&store[from..from + shape.columns], out);
 }
 
-/// The units of a sheet's first lines, to be read.
+/// The units of a sheet's first lines, to be read. Apart from `Units`, as a slice is from one that is lent to be written.
 #[derive(Clone, Copy)]
 pub struct Known<'a> {
     pub sheet: Sheet<'a>,
@@ -121,6 +121,7 @@ impl Units<'_> {
         ensures done { OnOk result (self.new.done ≡ self.old.done + 1) }
         ensures sheet { self.new.sheet ≡ self.old.sheet }
         ensures store { self.new.store.ghost_name ≡ self.old.store.ghost_name }
+        ensures long { length self.new.store.now ≡ length self.old.store.now }
     {
         let parts = self.sheet.parts;
         let line = parts.line(self.done);

@@ -32,6 +32,7 @@ impl Work<'_> {
         ensures done { OnOk result (self.new.units.done ≡ self.old.units.sheet.parts.shape.lines) }
         ensures room { SameWork self.old self.new }
     {
+        // Over lines, where `Elimination::each` goes over numbers: the place is the line's.
         self.elimination.start();
         let shape = self.units.sheet.parts.shape;
         let mut done = Progress::start(shape.unknowns);

@@ -8,7 +8,7 @@ use Rattle.sheet.proofs.room.Work.solve.Goals as goal
 pub loop-k-init : goal.loop-k-init
 loop-k-init c =
     let s = c.args.self.now in
-    (record { sheet = refl; store = refl; elimination = c.start.ensures.room; row = refl; other = refl }, c.requires, rw (c.start-done.ensures.0, c.start-done.ensures.1) (lining_none s.units.sheet.formed (rw (s.roomy.equation_room, s.roomy.unknowns) at c.start.ensures.begins)))
+    (record { sheet = refl; store_room = refl; store = refl; elimination = c.start.ensures.room; row = refl; other = refl }, c.requires, rw (c.start-done.ensures.0, c.start-done.ensures.1) (lining_none s.units.sheet.formed (rw (s.roomy.equation_room, s.roomy.unknowns) at c.start.ensures.begins)))
 
 pub returns-in_err-done-clause-verdict : goal.returns-in_err-done-clause-verdict
 returns-in_err-done-clause-verdict c =
