@@ -1,3 +1,4 @@
 pub mod Division
 pub mod Signed
 pub mod Mask
+pub mod Exponent

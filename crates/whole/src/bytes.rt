@@ -11,6 +11,7 @@ pub fn number_at(s: &[u8], at: usize) -> usize
 }
 
 /// The exponent that a byte holds, in two's complement.
+#[tactic(auto, using(crate::proofs::Exponent::twos_complement))]
 pub fn exponent(b: u8) -> i32
     ensures { result ≡ signed b }
 {

@@ -33,7 +33,8 @@ pub fn widen(x: i32) -> i64
 pub fn in_limit(x: i64) -> bool
     ensures { result ≡ in_limit x }
 {
-    x.unsigned_abs() <= LIMIT
+    let limit = LIMIT.cast_signed();
+    (-limit..=limit).contains(&x)
 }
 
 /// x in 32 bits. By `as`, which a proof shows to lose nothing: `try_from` has a failure that can't be.
