@@ -47,6 +47,7 @@ impl Elimination<'_> {
         requires { Replaceable self.old.unknown_columns self.old.unknowns self.old.table.now e.now self.old.sums.now self.old.equation.now }
         ensures judged { judged (replaced self.old.unknown_columns self.old.unknowns self.old.table.now e.now) ≡ judged_of result self.new.equation.now }
         ensures table { self.new.table.now ≡ self.old.table.now }
+        ensures quotients { self.new.quotients.now ≡ self.old.quotients.now }
         ensures room { SameRoom self.old self.new }
     {
         let u = self.unknown_columns;

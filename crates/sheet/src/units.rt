@@ -1,5 +1,5 @@
 // The units of a sheet's lines, as rows.
-ghost use Rattle.std.specs.Prelude.{◌≡◌, map, ◌+◌, ◌<◌, length, OnOk};
+ghost use Rattle.std.specs.Prelude.{◌≡◌, map, ◌+◌, ◌<◌, length, OnOk, OnErr};
 ghost use Rattle.row.specs.Judged.{judged, judged_of};
 ghost use Rattle.sheet_rules.specs.Lines.{unit_at, equations_at};
 ghost use Rattle.sheet.specs.Views.{shape_view};
@@ -119,6 +119,7 @@ impl Units<'_> {
         requires { (self.old.done < self.old.sheet.parts.shape.lines) × (length unit.old ≡ self.old.sheet.parts.shape.columns) × (length other.old ≡ self.old.sheet.parts.shape.columns) }
         ensures judged { judged (unit_at (shape_in self.old.sheet) (bytes_in self.old.sheet) self.old.done) ≡ judged_of result unit.new }
         ensures done { OnOk result (self.new.done ≡ self.old.done + 1) }
+        ensures refused { OnErr result (self.new.done ≡ self.old.done) }
         ensures sheet { self.new.sheet ≡ self.old.sheet }
         ensures store { self.new.store.ghost_name ≡ self.old.store.ghost_name }
         ensures long { length self.new.store.now ≡ length self.old.store.now }

@@ -1,5 +1,5 @@
 // The lines of a well-formed sheet in order, each through the elimination.
-ghost use Rattle.std.specs.Prelude.{◌≡◌, ◌+◌, ◌<◌, OnOk};
+ghost use Rattle.std.specs.Prelude.{◌≡◌, ◌+◌, ◌≤◌, ◌<◌, OnOk, OnErr, IfErr};
 ghost use Rattle.elimination.specs.Views.{outcome_of, verdict_of};
 ghost use Rattle.sheet_rules.specs.Work.{line_outcome, solved};
 ghost use Rattle.sheet.specs.Sheets.{shape_in, bytes_in};
@@ -15,6 +15,7 @@ impl Work<'_> {
         requires { (self.old.units.done < self.old.units.sheet.parts.shape.lines) × Stepping (shape_in self.old.units.sheet) done self.old.elimination.table.now }
         ensures outcome { line_outcome (shape_in self.old.units.sheet) (bytes_in self.old.units.sheet) self.old.units.done self.old.elimination.table.now done.rounds done.free ≡ outcome_of result self.new.elimination.table.now }
         ensures done { OnOk result (self.new.units.done ≡ self.old.units.done + 1) }
+        ensures refused { OnErr result ((self.old.units.done ≤ self.new.units.done) × (self.new.units.done ≤ self.old.units.done + 1)) }
         ensures room { SameWork self.old self.new }
     {
         let k = self.units.done;
@@ -30,6 +31,7 @@ impl Work<'_> {
         requires { self.old.units.done ≡ 0 }
         ensures verdict { solved (shape_in self.old.units.sheet) (bytes_in self.old.units.sheet) ≡ verdict_of result self.new.elimination.table.now }
         ensures done { OnOk result (self.new.units.done ≡ self.old.units.sheet.parts.shape.lines) }
+        ensures refused { IfErr result (λ stopped. (stopped.at ≤ self.new.units.done) × (self.new.units.done ≤ stopped.at + 1)) }
         ensures room { SameWork self.old self.new }
     {
         // Over lines, where `Elimination::each` goes over numbers: the place is the line's.
