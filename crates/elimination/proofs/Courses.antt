@@ -1,5 +1,5 @@
 -- The course of an equation and of equations in order: what they come to, by how each step went.
-use mathlib.Core.Path.{◌≡◌, refl, ap, ◌∙◌, subst}
+use mathlib.Core.Path.{◌≡◌, refl, sym, ap, ◌∙◌}
 use mathlib.Core.Bool.{true, false}
 use mathlib.Core.List.{List}
 use Prim.Native.Nat.{ℕ, zero, suc, ◌+◌, ◌-◌, ◌*◌, ◌/◌, ◌%◌, ◌≤◌, ◌<◌, ◌^◌}
@@ -24,7 +24,7 @@ use Rattle.row.specs.Tables.{all_at}
 use Rattle.std.specs.Prelude.{Result, Ok, Err}
 use Rattle.row.proofs.Judging.{judged_ok}
 use Rattle.row.proofs.RowLoops.{row_less}
-use Rattle.elimination_rules.specs.Round.{Turn, holds, solved, again, clash, wide, upright, round}
+use Rattle.elimination_rules.specs.Round.{Turn, solved, again, clash, wide, round}
 use Rattle.elimination_rules.specs.Equation.{Outcome, done, clashed, widened, on_turn, solve, one, Verdict, accepted, clash_at, wide_at, on_outcome, each, eliminate}
 use Rattle.elimination_rules.specs.Answer.{Answer, refuses}
 use Rattle.whole.specs.Place.{Found, place, nowhere, on_found}
@@ -32,13 +32,10 @@ use Rattle.elimination_rules.specs.Call.{first_used, fuel, on_verdict, eliminate
 use Rattle.elimination_rules.specs.General.{Kept}
 use Rattle.elimination_rules.specs.Zeros.{sized, in_length}
 use Rattle.elimination_rules.specs.Upright.{least_unknown}
-use Rattle.elimination_rules.proofs.Upright.{length_upright}
-use Rattle.elimination_rules.proofs.Ways.{turn_ind, round_ind}
-use Rattle.elimination_rules.proofs.Fall.{again_remains, again_tabled}
 use Rattle.elimination_rules.specs.Kept.{start_kept}
 use Rattle.elimination_rules.proofs.Count.{one_kept}
 use Rattle.elimination.specs.Requires.{Countable, smallest_size}
-use Rattle.elimination.specs.Room.{SameRoom, Ready, Lined}
+use Rattle.elimination.specs.Room.{SameRoom, Ready, Placed, Lined}
 use Rattle.elimination.specs.Views.{turn_of, outcome_of, verdict_of}
 use Rattle.std.specs.Result.{IsErrAnd, MatchResult}
 use Rattle.elimination.specs.declared.progress.Progress.{Progress}
@@ -48,6 +45,7 @@ use Rattle.elimination.specs.declared.refusal.Refusal.{Refusal}
 use Rattle.elimination.specs.Refusals.{number_of, place_of}
 use Rattle.elimination.specs.Heard.{answer_of}
 use Rattle.elimination.specs.declared.room.Elimination.{Elimination}
+use Rattle.elimination.proofs.Rounds.{ReadyLists, ready_lists, Going, round_goes, round_counts}
 
 -- "more than any exponent's size"
 pub fuel_enough : (u : ℕ) (e : List ℤ) → all_in_limit e ≡ true → smallest_size u e < fuel
@@ -76,44 +74,19 @@ solve_stops u v t e k f t' e' Why.TheVariants.Clash h (Err Why.TheVariants.Wide)
 solve_stops u v t e k f t' e' Why.TheVariants.Wide h (Err Why.TheVariants.Clash) x = cc
 solve_stops u v t e k f t' e' s h (Ok p) x = absurd x
 
--- A round that goes on leaves an equation as it was, but smaller.
-pub record Going (u v : ℕ) (t e : List ℤ) (k f : ℕ) (t' e' : List ℤ) : Type 0 where
-  pub turn : round quotient u v t e f ≡ again t' e'
-  pub smaller : smallest_size u e' < smallest_size u e
-  pub counts : k + 1 < 2 ^ 32
-  pub countable : Countable u (k + 1) e'
-  pub table : all_in_limit t' ≡ true
-  pub equation : all_in_limit e' ≡ true
-
 pub solve_goes : {u v : ℕ} {t e : List ℤ} {k f : ℕ} {t' e' : List ℤ} (o : Outcome) → Going u v t e k f t' e'
     → ((n : ℕ) → smallest_size u e' < n → solve quotient n u v t' e' (k + 1) f ≡ o) → (n : ℕ) → smallest_size u e < n → solve quotient n u v t e k f ≡ o
 unfolding solve
 solve_goes o g h zero l = absurd (omega arith)
 solve_goes o g h (suc n) l = rw g.turn (h n (omega arith))
 
--- That holds of one with room for it.
+-- What the rounds of an elimination leave.
 module _ {s : Elimination} (R : Ready s) (k f : ℕ) (c : Countable s.unknown_columns k s.equation.now) where
   pub going : {t' e' : List ℤ} → round quotient s.unknown_columns s.unknowns s.table.now s.equation.now f ≡ again t' e' → Going s.unknown_columns s.unknowns s.table.now s.equation.now k f t' e'
-  going {t'} {e'} r =
-      let m = again_remains rounded_down s.unknown_columns s.unknowns s.table.now s.equation.now f r in
-      let h = again_tabled quotient s.unknown_columns s.unknowns (length s.equation.now) s.table.now s.equation.now f refl s.rows r in
-      record { turn = r; smaller = m.smaller; counts = omega arith; countable = omega arith; table = h.limited; equation = m.limited R.equation }
-
-  -- One that solves has picked an unknown, so that it can be counted.
-  abbrev Counts : Turn → Type 0
-  Counts (holds t') = Unit {0}
-  Counts (solved t' f') = k + 1 < 2 ^ 32
-  Counts (again t' e') = Unit {0}
-  Counts clash = Unit {0}
-  Counts wide = Unit {0}
+  going = round_goes (ready_lists R) k f c
 
   pub solved_counts : {t' : List ℤ} {f' : ℕ} → round quotient s.unknown_columns s.unknowns s.table.now s.equation.now f ≡ solved t' f' → k + 1 < 2 ^ 32
-  solved_counts r =
-      let e = s.equation.now in
-      subst Counts r
-      (round_ind quotient s.unknown_columns s.unknowns (length e) s.table.now f Counts e (λ _ _. tt) (λ _ _. tt)
-      (λ j p. turn_ind quotient s.unknown_columns s.unknowns (length e) s.table.now f Counts (upright e j) j (length_upright e j)
-      (record { solves = λ _ _ _. omega (arith, p.some, p.size); clashes = λ _ _. tt; goes_on = λ _ _. tt; widens = tt })))
+  solved_counts = round_counts (ready_lists R) k f c
 
 -- ---- one equation
 good_in_limit : (r e : List ℤ) → judged r ≡ good e → all_in_limit e ≡ true
@@ -143,6 +116,13 @@ module _ (u v : ℕ) (t e : List ℤ) (k f : ℕ) where
 -- What is then solved.
 pub replaced_countable : (u k : ℕ) (r e' : List ℤ) → judged r ≡ good e' → k + 100000000 < 2 ^ 32 → (all_in_limit e' ≡ true) × Countable u k e'
 replaced_countable u k r e' j c = let h = good_in_limit r e' j in (h, omega (arith, fuel_enough u e' h))
+
+pub replaced_ready : {s : Elimination} {k : ℕ} {e : List ℤ} (e' : List ℤ) → Placed s e k → length e' ≡ length s.equation.now
+    → judged (replaced s.unknown_columns s.unknowns s.table.now e) ≡ good e'
+    → ReadyLists s.unknown_columns s.unknowns s.table.now e' s.quotients.now × Countable s.unknown_columns k e'
+replaced_ready {s} {k} e' P l j =
+    let h = replaced_countable s.unknown_columns k _ e' j P.count in
+    (record { table = P.table; equation = h.0; columns = omega (arith, s.columns); word = s.word; rows = rw l s.rows; room = omega (arith, s.quotients_room) }, h.1)
 
 -- What `map_err` was given, by what it made of it.
 module _ {A B C : Type 0} (r : Result A B) {r' : Result A C} (P : B → C → Type 0) (m : MatchResult r (λ x. r' ≡ Ok x) (λ y. IsErrAnd r' (P y))) where
@@ -232,20 +212,44 @@ module _ {s : Elimination} {es : List ℤ} {m : ℕ} (S : Lined s es m) where
       unfolding each
       next_one = let d : m - i ≡ suc (m - (i + 1)) = omega arith in rw d at L.is
 
-      stop : (o : Outcome) (z : Verdict) → one quotient fuel u v t e k f ≡ o → ((go : List ℤ → ℕ → ℕ → Verdict) → on_outcome go i o ≡ z) → eliminate quotient fuel u v w m es ≡ z
-      stop o z r g = rw r at next_one ∙ g rest
+      -- The rounds still fit.
+      pub lining_placed : (x : Elimination) → SameRoom s x → x.table.now ≡ t → Placed x e k
+      lining_placed x R b =
+          let p : length e ≡ w = passed_part L.passed h in
+          record {
+            table = rw b L.kept.limit;
+            unknowns = omega (arith, R.unknowns, R.unknown_columns, S.unknowns);
+            sums = R.sums_room ∙ S.sums ∙ sym R.width;
+            long = p ∙ sym R.width;
+            count = omega (arith, L.counted, S.few);
+          }
+
+      -- Equation i comes to o, which ends the work with z, whatever the rest would come to.
+      pub lining_ends : (o : Outcome) (z : Verdict) → one quotient fuel u v t e k f ≡ o → ((go : List ℤ → ℕ → ℕ → Verdict) → on_outcome go i o ≡ z)
+          → eliminate quotient fuel u v w m es ≡ z
+      lining_ends o z r g = rw r at next_one ∙ g rest
 
       -- Equation i ended the work, and the code says so.
       pub lining_stop : (why : Why.Stop) (t' : List ℤ) → one quotient fuel u v t e k f ≡ outcome_of (Err why) t' → (d : Stopped) → d ≡ record { why = why; at = i }
           → (r : Result Progress Stopped) → IsErrAnd r (λ x. x ≡ d) → eliminate quotient fuel u v w m es ≡ verdict_of r t'
-      lining_stop Why.TheVariants.Clash t' h d d' (Err x) x' = rw (x', d') (stop clashed (clash_at i) h (λ go. refl))
-      lining_stop Why.TheVariants.Wide t' h d d' (Err x) x' = rw (x', d') (stop widened (wide_at i) h (λ go. refl))
+      lining_stop Why.TheVariants.Clash t' h d d' (Err x) x' = rw (x', d') (lining_ends clashed (clash_at i) h (λ go. refl))
+      lining_stop Why.TheVariants.Wide t' h d d' (Err x) x' = rw (x', d') (lining_ends widened (wide_at i) h (λ go. refl))
       lining_stop why t' h d d' (Ok p) x' = absurd x'
 
       pub lining_more : (t' : List ℤ) (k' f' : ℕ) → one quotient fuel u v t e k f ≡ done t' k' f' → Lining u v w m es t' k' f' (a + w) (i + 1)
       lining_more t' k' f' r =
           let n = one_kept rounded_down fuel u v w (omega (arith, S.unknowns, s.columns)) (omega (arith, S.unknowns, s.word)) t e k f (passed_part L.passed h) L.kept r in
           record { passed = passed_more L.passed h; kept = n.0; counted = omega (arith, n.1); is = rw (← drop-drop w a es) (rw r at next_one) }
+
+-- ---- the answer
+-- How many of n numbers the caller's table takes.
+abbrev pub wanted_of : Result Progress Stopped → ℕ → ℕ
+wanted_of (Ok p) n = n
+wanted_of (Err s) n = 0
+
+pub wanted_few : (x : Result Progress Stopped) (n : ℕ) → wanted_of x n ≤ n
+wanted_few (Ok p) n = omega arith
+wanted_few (Err s) n = omega arith
 
 -- ---- the call
 -- What the code says of a refusal d.

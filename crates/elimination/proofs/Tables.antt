@@ -3,6 +3,7 @@ use mathlib.Core.Path.{◌≡◌, refl, sym, ap, ◌∙◌}
 use mathlib.Core.Bool.{true}
 use mathlib.Core.List.{List, ◌++◌, append-nil, append_assoc}
 use Prim.Native.Nat.{ℕ, suc, ◌+◌, ◌-◌, ◌*◌, ◌≤◌, ◌<◌}
+use native.Mathlib.Nat.{zero-add, sub-zero}
 use native.Mathlib.Omega.{arith}
 use borrow.Rule.Slice.PartMut.{same_len_mid}
 use lib.IntN.{ℤ, pos}
@@ -29,6 +30,9 @@ pub record Started (w v : ℕ) (t : List ℤ) (a j : ℕ) : Type 0 where
   pub long : length t ≡ v * w
   pub left : v * w ≡ a + (v - j) * w
   pub is : start w v ≡ take a t ++ start_from w j (v - j)
+
+pub started_none : (w v : ℕ) (t : List ℤ) → length t ≡ v * w → v ≤ w → Started w v t 0 0
+started_none w v t e h = record { within = omega arith; columns = h; long = e; left = rw (zero-add, sub-zero); is = rw sub-zero }
 
 module _ {w v : ℕ} {t : List ℤ} {a j : ℕ} (S : Started w v t a j) where
   pub started_all : v ≤ j → t ≡ start w v

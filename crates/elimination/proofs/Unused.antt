@@ -1,13 +1,14 @@
--- The first equation with something in a column that is not used, as a search over the places finds it.
-use Rattle.std.proofs.Common.{◌≡◌, refl, sym, ◌∙◌, ap, ℕ, zero, suc, ◌+◌, ◌-◌, ◌*◌, List, ℤ, not, take, drop, Option, Some, None}
-use native.Mathlib.Nat.{zero-mul, add-sub_cancel_left}
+-- The first equation with something in a column that is not used: as a search over the places finds it, and as a loop over the equations does.
+use Rattle.std.proofs.Common.{◌≡◌, refl, sym, ◌∙◌, ap, ℕ, zero, suc, ◌+◌, ◌-◌, ◌*◌, ◌≤◌, ◌<◌, true, false, List, ℤ, not, length, take, drop, Option, Some, None, arith}
+use native.Mathlib.Nat.{zero-mul, sub-zero, add-sub_cancel_left}
 use lib.Seq.{drop-drop}
 use Rattle.std.specs.List.{find, range_with_len}
 use Rattle.std.specs.Option.{option_map}
-use Rattle.whole.specs.Cases.{by_test}
-use Rattle.whole.specs.Place.{found_of}
+use Rattle.whole.specs.Cases.{if, by_test}
+use Rattle.whole.specs.Place.{place, nowhere, found_of}
 use Rattle.row.proofs.RowLoops.{next_row}
 use Rattle.elimination_rules.specs.Call.{unused, first_used}
+use Rattle.elimination.proofs.Courses.{Passed, passed_none, passed_more}
 
 module _ (u v w : ℕ) (es : List ℤ) where
   -- Equation i, as the code takes it.
@@ -31,3 +32,27 @@ module _ (u v w : ℕ) (es : List ℤ) where
 
   pub used_found : (m : ℕ) (r : Option ℕ) → option_map (λ i. i) r ≡ find (λ j. not (unused u v (equation j))) (range_with_len 0 m) → first_used u v w m 0 es ≡ found_of r
   used_found m r e = rw zero-mul at (used_find m 0) ∙ ap found_of (sym e ∙ same r)
+
+-- ---- a loop over the equations: i are behind, and the rest starts at a
+pub record Searched (u v w m : ℕ) (es : List ℤ) (a i : ℕ) : Type 0 where
+  pub passed : Passed w m es a i
+  pub is : first_used u v w m 0 es ≡ first_used u v w (m - i) i (drop a es)
+
+pub searched_none : (u v w m : ℕ) (es : List ℤ) → length es ≡ m * w → Searched u v w m es 0 0
+searched_none u v w m es e = record { passed = passed_none e; is = rw sub-zero }
+
+module _ {u v w m : ℕ} {es : List ℤ} {a i : ℕ} (S : Searched u v w m es a i) where
+  pub searched_end : m ≤ i → first_used u v w m 0 es ≡ nowhere
+  unfolding first_used
+  searched_end h = let z : m - i ≡ 0 = omega arith in rw z at S.is
+
+  module _ (h : i < m) where
+    next : first_used u v w m 0 es ≡ if (unused u v (take w (drop a es))) (first_used u v w (m - (i + 1)) (i + 1) (drop w (drop a es))) (place i)
+    unfolding first_used
+    next = let d : m - i ≡ suc (m - (i + 1)) = omega arith in rw d at S.is
+
+    pub searched_stop : unused u v (take w (drop a es)) ≡ false → first_used u v w m 0 es ≡ place i
+    searched_stop e = rw e at next
+
+    pub searched_more : unused u v (take w (drop a es)) ≡ true → Searched u v w m es (a + w) (i + 1)
+    searched_more e = record { passed = passed_more S.passed h; is = rw (← drop-drop w a es) (rw e at next) }

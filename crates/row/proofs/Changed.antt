@@ -7,10 +7,13 @@ use lib.IntN.{ℤ, pos, ◌-ℤ◌, ◌*ℤ◌}
 use lib.ListN.{length, set, length-map}
 use Rattle.row.specs.Row.{at, less}
 use Rattle.row.specs.Values.{at_less}
-use Rattle.row.proofs.Loops.{Painted, always, painted_more, map_at}
+use Rattle.row.proofs.Loops.{Painted, always, painted_none, painted_more, map_at}
 
 -- A loop that makes r into f of each number of s.
 module _ (f : ℤ → ℤ) (s : List ℤ) where
+  pub mapped_none : (r : List ℤ) → length s ≡ length r → Painted always (map f s) r r 0
+  mapped_none r e = painted_none always (pos 0) (map f s) r (length-map s f ∙ e)
+
   pub mapped_more : {r l : List ℤ} {i : ℕ} → Painted always (map f s) r l i → i < length l → (x : ℤ) → x ≡ f (at s i) → Painted always (map f s) r (set l i x) (i + 1)
   mapped_more {r} {l} {i} P h x e = painted_more always (pos 0) (map f s) r l i P h x (e ∙ sym (map_at f s i (pos 0) (pos 0) (omega (arith, length-map s f)))) refl
 

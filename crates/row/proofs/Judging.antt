@@ -24,3 +24,11 @@ module _ (m l : List ℤ) (r : Result (Unit {0}) PastLimit) (e : judged m ≡ ju
       by : (a : Bool) → all_in_limit m ≡ a → if a (good m) wide ≡ wide → all_in_limit m ≡ false
       by true f e = cc
       by false f e = f
+
+-- The same by a test: true where it is the row that is left.
+module _ (m l : List ℤ) (b : Bool) {p : PastLimit} (e : judged m ≡ judged_of (if b (Ok tt) (Err p)) l) where
+  pub judged_true : b ≡ true → (l ≡ m) × (all_in_limit m ≡ true)
+  judged_true t = judged_ok m l (Ok tt) (rw t at e) refl
+
+  pub judged_false : b ≡ false → all_in_limit m ≡ false
+  judged_false t = judged_err m l (Err p) (rw t at e) refl

@@ -8,8 +8,8 @@ use mathlib.Core.List.{List, [], ◌∷◌, ◌++◌, append-nil, map}
 use Prim.Native.Nat.{ℕ, zero, suc, ◌+◌, ◌≤◌, ◌<◌, ◌^◌}
 use native.Mathlib.Numerals.{add-one}
 use native.Mathlib.Omega.{arith}
-use lib.ListN.{length, get_or, take, drop, set, drop_of_length-le, length-set, take-append-drop}
-use lib.Seq.{drop-cons, take_all}
+use lib.ListN.{length, get_or, take, drop, set, drop_of_length-le, length-set, length-append, length-drop, take-append-drop}
+use lib.Seq.{drop-cons, take_all, take-append_seam}
 use lib.IntN.{ℤ, pos}
 use lib.Signed.{mag}
 use mir.Syntax.{Width}
@@ -111,6 +111,13 @@ module _ {A : Type 0} (p : A → Bool) (d : A) (m r : List A) where
 
     pub painted_good : length l ≤ i → all p m ≡ true
     painted_good h = P.judged ∙ scan_end p d m i (omega arith)
+
+-- A loop that writes s over the front of r.
+pub front_long : {A : Type 0} (s r : List A) → length s ≤ length r → length (s ++ drop (length s) r) ≡ length r
+front_long s r l = omega (arith, length-append s (drop (length s) r), length-drop (length s) r)
+
+pub painted_front : {A : Type 0} (p : A → Bool) (s r l : List A) (i : ℕ) → i ≡ length s → Painted p (s ++ drop (length s) r) r l i → l ≡ s ++ drop (length s) r
+painted_front p s r l i e P = rw e at P.is ∙ ap (λ x. x ++ drop (length s) r) (take-append_seam s (drop (length s) r))
 
 -- An element that is not painted yet, as the code reads it.
 pub painted_held : (w : Width) {p : ℤ → Bool} {m r l : List ℤ} {i : ℕ} → Painted p m r l i → i < length l → mag (at l i) < 2 ^ hbits w → to_z w (of_z w (at l i)) ≡ at r i

@@ -7,7 +7,7 @@ use native.Mathlib.Nat.{suc-mul, zero-mul}
 use native.Mathlib.Omega.{arith}
 use lib.IntN.{ℤ}
 use lib.ListN.{length, take, drop, length-append, length-drop, take-append-drop}
-use lib.Seq.{take_all, take_at, drop_at, length-take-le}
+use lib.Seq.{take_all, take_at, drop_at, take-add, drop-drop, length-take-le}
 use Rattle.row.specs.Row.{all}
 use Rattle.row.specs.Table.{each_row}
 use Rattle.row.specs.Tables.{all_append}
@@ -81,3 +81,18 @@ module _ (p : ℤ → Bool) (g : List ℤ → List ℤ) (w : ℕ) (m : List ℤ)
     worked_more (suc n) k W h e l is long good =
         let d : suc n - 1 ≡ n = omega arith in
         rw (e, d) (turn n W l is long good)
+
+    -- A row that g leaves as it is costs no pass.
+    pub worked_skip : (n : ℕ) → Worked p g w m t a n → 0 < n → g (take w (drop a t)) ≡ take w (drop a t) → all p (take w (drop a t)) ≡ true → Worked p g w m t (a + w) (n - 1)
+    unfolding each_row
+    worked_skip zero W h e k = absurd (omega arith)
+    worked_skip (suc n) W h e k =
+        let d : suc n - 1 ≡ n = omega arith in
+        let to : take (a + w) t ≡ take a t ++ take w (drop a t) = take-add a w t in
+        let from : drop (a + w) t ≡ drop w (drop a t) = sym (drop-drop w a t) in
+        rw d
+        (record {
+          long = omega (arith, W.long, suc-mul n w);
+          is = rw (to, from, append_assoc (take a t) (take w (drop a t)), ← e) W.is;
+          good = rw (to, all_append p (take a t), W.good) k;
+        })

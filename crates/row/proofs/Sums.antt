@@ -1,20 +1,22 @@
 -- Laws of rows added up: the sums stay within 64 bits, and what a loop over the rows has left to add.
-use mathlib.Core.Path.{◌≡◌, sym, ap, ◌∙◌}
+use mathlib.Core.Path.{◌≡◌, refl, sym, ap, ◌∙◌}
 use mathlib.Core.Bool.{true}
 use mathlib.Core.List.{List}
 use Prim.Native.Nat.{ℕ, ◌+◌, ◌-◌, ◌*◌, ◌≤◌, ◌<◌}
+use native.Mathlib.Nat.{zero-add, sub-zero}
 use native.Mathlib.Numerals.{add-one}
 use native.Mathlib.Omega.{arith}
-use borrow.Author.Tests.{leb-true, le-leb}
-use lib.Dec.{leb}
+use borrow.Author.Tests.{leb-true, le-leb, ltb-true, ltb-false}
+use lib.Dec.{leb, ltb}
 use lib.ListN.{length, take, drop, replicate, drop_of_length-le, length-drop}
 use lib.Seq.{drop-cons, drop-drop, length-take-le, take_at}
 use lib.IntN.{ℤ, pos, nat_abs}
+use Rattle.whole.specs.Cases.{if, if_ind}
 use Rattle.whole.specs.Size.{limit, in_limit, Within, within_limit, within_add, within_mul, within_more}
 use Rattle.row.specs.Row.{at, all_in_limit, plus}
 use Rattle.row.specs.Values.{at_plus, length_plus, plus_zero}
-use Rattle.row.specs.Table.{add_rows, constants}
-use Rattle.row.specs.Tables.{all_at, all_of, all_both, all_take, all_drop, length_constants, zeros_in_limit}
+use Rattle.row.specs.Table.{add_rows, constants, replaced}
+use Rattle.row.specs.Tables.{all_at, all_of, all_both, all_take, all_drop, length_constants, constants_low, constants_high, zeros_in_limit}
 use Rattle.row.specs.Requires.{all_within, Addable, Replaceable}
 use Rattle.row.proofs.RowLoops.{row_less}
 use Rattle.row.proofs.Loops.{Painted, always, painted_past, all_always}
@@ -39,6 +41,12 @@ plus_within m f r s e h g k =
     rw (at_plus f r s i) (within_add (at_within m r h i n) (within_mul (within_limit f g) (at_within limit s k i o))))
 
 -- ---- the constants
+pub constants_at : (u : ℕ) (e : List ℤ) (i : ℕ) → at (constants u e) i ≡ if (ltb i u) (pos 0) (at e i)
+constants_at u e i =
+    if_ind (ltb i u) (pos 0) (at e i) (λ z. at (constants u e) i ≡ z)
+    (λ h. constants_low u e i (ltb-true i u h))
+    (λ h. constants_high u e i (ltb-false i u h))
+
 -- A loop that writes the columns of e from u on over a row of n zeros.
 pub constants_begin : (u n : ℕ) (e : List ℤ) → u ≤ length e → n ≡ length e → Painted always (constants u e) (replicate n (pos 0)) (replicate n (pos 0)) u
 constants_begin u n e h k =
@@ -58,6 +66,9 @@ pub record Added (fs t r s : List ℤ) (a j : ℕ) : Type 0 where
   pub long : length s ≡ length r
   pub is : add_rows (length r) (drop j fs) (drop a t) s ≡ add_rows (length r) fs t r
   pub small : all_within (limit + j * (limit * limit)) s ≡ true
+
+pub added_none : {fs t r : List ℤ} → Addable fs t r → Added fs t r r 0 0
+added_none A = record { able = A; within = omega arith; left = rw (zero-add, sub-zero) A.rows; long = refl; is = refl; small = A.row }
 
 module _ {fs t r s : List ℤ} {a j : ℕ} (A : Added fs t r s a j) where
   pub added_all : length fs ≤ j → s ≡ add_rows (length r) fs t r
@@ -111,3 +122,6 @@ module _ {u v : ℕ} {t e sums out : List ℤ} (R : Replaceable u v t e sums out
     few = omega (arith, long_numbers);
     rows = rw (long_numbers, length_constants u e R.columns) R.rows;
   }
+
+  pub replace_added : add_rows (length (constants u e)) (take v e) t (constants u e) ≡ replaced u v t e
+  replace_added = rw (length_constants u e R.columns)

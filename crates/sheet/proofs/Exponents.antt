@@ -9,10 +9,15 @@ use lib.Dec.{eqb, eqb-suc-zero}
 use lib.ListN.{take, drop, get_or}
 use Rattle.std.specs.List.{list_all}
 use Rattle.whole.specs.Bytes.{signed, signed_low, signed_high}
-use Rattle.whole.specs.Cases.{by_less, by_test}
+use Rattle.whole.specs.Cases.{both, by_less, by_test}
 use Rattle.row.specs.Row.{all, is_zero}
 
 module _ {A B : Type 0} (f : A → B) where
+  pub all_map : (p : B → Bool) (s : List A) → all p (map f s) ≡ all (λ x. p (f x)) s
+  unfolding all
+  all_map p [] = refl
+  all_map p (x ∷ s) = ap (both (p (f x))) (all_map p s)
+
   -- The code's `all` over bytes is the rules' `all` over what they hold.
   pub all_of_map : (p : B → Bool) (s : List A) → list_all (λ x. p (f x)) s ≡ all p (map f s)
   unfolding all
@@ -29,7 +34,7 @@ module _ {A B : Type 0} (f : A → B) where
   map_part n (suc m) [] = map_take n []
   map_part n (suc m) (x ∷ s) = map_part n m s
 
-signed_zero : (b : ℕ) → b < 256 → is_zero (signed b) ≡ eqb b 0
+pub signed_zero : (b : ℕ) → b < 256 → is_zero (signed b) ≡ eqb b 0
 signed_zero b h =
     by_less b 128
     (λ l. rw (signed_low b l))

@@ -1,6 +1,9 @@
+pub mod Places
+pub mod Rules
+pub mod Stores
+pub mod Tests
 pub mod Exponents
 pub mod Lowest
-pub mod Stores
 pub mod Sources
 pub mod Courses
 pub mod Questions

@@ -64,6 +64,11 @@ module _ (x p : ℤ) (h : pos 0 <ℤ p) where
   kept_remainder k = same_remainder (kept k) (divided x p h)
 
 -- ---- neither grows: the quotient fits where the dividend does, the remainder where the divisor does
+pub size_quotient : (x p : ℤ) → nat_abs (quotient x p) ≤ nat_abs x
+unfolding quotient
+size_quotient (pos a) p = div-le_self a (nat_abs p)
+size_quotient (negsuc a) p = omega (arith, div-le_self a (nat_abs p))
+
 mag_quotient : (x p : ℤ) → mag (quotient x p) ≤ mag x
 unfolding quotient
 mag_quotient (pos a) p = div-le_self a (nat_abs p)
