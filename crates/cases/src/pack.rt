@@ -1,8 +1,7 @@
 // The parts of a pack, and why standard input is none: tests/PACK.md has the format.
-ghost use Rattle.std.specs.Prelude.{◌≡◌, ◌<◌, ◌≤◌, length, take, vec_len, IfOk};
+ghost use Rattle.std.specs.Prelude.{◌≡◌, ◌<◌, ◌≤◌, length, take, IfOk};
 ghost use Rattle.std.specs.Io.KnownBytes.{Consumes, IsAtEnd};
 
-use std::alloc::{AllocError, Global};
 use std::fmt;
 use std::io::{self, Read};
 
@@ -43,12 +42,6 @@ impl From<NotAPack> for Stop {
 impl From<io::Error> for Stop {
     fn from(error: io::Error) -> Stop {
         Stop::Io(error)
-    }
-}
-
-impl From<AllocError> for Stop {
-    fn from(error: AllocError) -> Stop {
-        Stop::Io(io::Error::from(error))
     }
 }
 
@@ -138,12 +131,14 @@ impl Header {
     }
 }
 
-/// A case's body of so many bytes.
-pub fn body(input: &mut impl Read, alloc: Global, length: usize) -> Result<Vec<u8>, Stop>
-    ensures { IfOk result (λ v. vec_len v ≡ length) }
+/// A case's body of so many bytes, in lent room. One that the room is too short for is out of the limits.
+pub fn body<'a>(input: &mut impl Read, room: &'a mut [u8], count: usize) -> Result<&'a [u8], Stop>
+    ensures { IfOk result (λ bytes. length bytes.now ≡ count) }
 {
-    let mut bytes = vec![in alloc; 0; length]?;
-    if read_full(input, &mut bytes)? < length {
+    let Some(bytes) = room.get_mut(..count) else {
+        return Err(Stop::from(NotAPack::Header));
+    };
+    if read_full(input, bytes)? < count {
         return Err(Stop::from(NotAPack::Cut));
     }
     Ok(bytes)
