@@ -1,5 +1,5 @@
 -- The course of an equation and of equations in order: what they come to, by how each step went.
-use mathlib.Core.Path.{◌≡◌, refl, ap, ◌∙◌, subst}
+use mathlib.Core.Path.{◌≡◌, refl, ap, ◌∙◌}
 use mathlib.Core.Bool.{true, false}
 use mathlib.Core.List.{List}
 use Prim.Native.Nat.{ℕ, zero, suc, ◌+◌, ◌-◌, ◌*◌, ◌/◌, ◌%◌, ◌≤◌, ◌<◌, ◌^◌}
@@ -24,7 +24,7 @@ use Rattle.row.specs.Tables.{all_at}
 use Rattle.std.specs.Prelude.{Result, Ok, Err}
 use Rattle.row.proofs.Judging.{judged_ok}
 use Rattle.row.proofs.RowLoops.{row_less}
-use Rattle.elimination_rules.specs.Round.{Turn, holds, solved, again, clash, wide, upright, round}
+use Rattle.elimination_rules.specs.Round.{Turn, solved, again, clash, wide, round}
 use Rattle.elimination_rules.specs.Equation.{Outcome, done, clashed, widened, on_turn, solve, one, Verdict, accepted, clash_at, wide_at, on_outcome, each, eliminate}
 use Rattle.elimination_rules.specs.Answer.{Answer, refuses}
 use Rattle.whole.specs.Place.{Found, place, nowhere, on_found}
@@ -32,9 +32,6 @@ use Rattle.elimination_rules.specs.Call.{first_used, fuel, on_verdict, eliminate
 use Rattle.elimination_rules.specs.General.{Kept}
 use Rattle.elimination_rules.specs.Zeros.{sized, in_length}
 use Rattle.elimination_rules.specs.Upright.{least_unknown}
-use Rattle.elimination_rules.proofs.Upright.{length_upright}
-use Rattle.elimination_rules.proofs.Ways.{turn_ind, round_ind}
-use Rattle.elimination_rules.proofs.Fall.{again_remains, again_tabled}
 use Rattle.elimination_rules.specs.Kept.{start_kept}
 use Rattle.elimination_rules.proofs.Count.{one_kept}
 use Rattle.elimination.specs.Requires.{Countable, smallest_size}
@@ -48,6 +45,7 @@ use Rattle.elimination.specs.declared.refusal.Refusal.{Refusal}
 use Rattle.elimination.specs.Refusals.{number_of, place_of}
 use Rattle.elimination.specs.Heard.{answer_of}
 use Rattle.elimination.specs.declared.room.Elimination.{Elimination}
+use Rattle.elimination.proofs.Rounds.{ready_lists, Going, round_goes, round_counts}
 
 -- "more than any exponent's size"
 pub fuel_enough : (u : ℕ) (e : List ℤ) → all_in_limit e ≡ true → smallest_size u e < fuel
@@ -76,44 +74,19 @@ solve_stops u v t e k f t' e' Why.TheVariants.Clash h (Err Why.TheVariants.Wide)
 solve_stops u v t e k f t' e' Why.TheVariants.Wide h (Err Why.TheVariants.Clash) x = cc
 solve_stops u v t e k f t' e' s h (Ok p) x = absurd x
 
--- A round that goes on leaves an equation as it was, but smaller.
-pub record Going (u v : ℕ) (t e : List ℤ) (k f : ℕ) (t' e' : List ℤ) : Type 0 where
-  pub turn : round quotient u v t e f ≡ again t' e'
-  pub smaller : smallest_size u e' < smallest_size u e
-  pub counts : k + 1 < 2 ^ 32
-  pub countable : Countable u (k + 1) e'
-  pub table : all_in_limit t' ≡ true
-  pub equation : all_in_limit e' ≡ true
-
 pub solve_goes : {u v : ℕ} {t e : List ℤ} {k f : ℕ} {t' e' : List ℤ} (o : Outcome) → Going u v t e k f t' e'
     → ((n : ℕ) → smallest_size u e' < n → solve quotient n u v t' e' (k + 1) f ≡ o) → (n : ℕ) → smallest_size u e < n → solve quotient n u v t e k f ≡ o
 unfolding solve
 solve_goes o g h zero l = absurd (omega arith)
 solve_goes o g h (suc n) l = rw g.turn (h n (omega arith))
 
--- That holds of one with room for it.
+-- What the rounds of an elimination leave.
 module _ {s : Elimination} (R : Ready s) (k f : ℕ) (c : Countable s.unknown_columns k s.equation.now) where
   pub going : {t' e' : List ℤ} → round quotient s.unknown_columns s.unknowns s.table.now s.equation.now f ≡ again t' e' → Going s.unknown_columns s.unknowns s.table.now s.equation.now k f t' e'
-  going {t'} {e'} r =
-      let m = again_remains rounded_down s.unknown_columns s.unknowns s.table.now s.equation.now f r in
-      let h = again_tabled quotient s.unknown_columns s.unknowns (length s.equation.now) s.table.now s.equation.now f refl s.rows r in
-      record { turn = r; smaller = m.smaller; counts = omega arith; countable = omega arith; table = h.limited; equation = m.limited R.equation }
-
-  -- One that solves has picked an unknown, so that it can be counted.
-  abbrev Counts : Turn → Type 0
-  Counts (holds t') = Unit {0}
-  Counts (solved t' f') = k + 1 < 2 ^ 32
-  Counts (again t' e') = Unit {0}
-  Counts clash = Unit {0}
-  Counts wide = Unit {0}
+  going = round_goes (ready_lists R) k f c
 
   pub solved_counts : {t' : List ℤ} {f' : ℕ} → round quotient s.unknown_columns s.unknowns s.table.now s.equation.now f ≡ solved t' f' → k + 1 < 2 ^ 32
-  solved_counts r =
-      let e = s.equation.now in
-      subst Counts r
-      (round_ind quotient s.unknown_columns s.unknowns (length e) s.table.now f Counts e (λ _ _. tt) (λ _ _. tt)
-      (λ j p. turn_ind quotient s.unknown_columns s.unknowns (length e) s.table.now f Counts (upright e j) j (length_upright e j)
-      (record { solves = λ _ _ _. omega (arith, p.some, p.size); clashes = λ _ _. tt; goes_on = λ _ _. tt; widens = tt })))
+  solved_counts = round_counts (ready_lists R) k f c
 
 -- ---- one equation
 good_in_limit : (r e : List ℤ) → judged r ≡ good e → all_in_limit e ≡ true
