@@ -34,7 +34,7 @@ use Rattle.elimination_rules.specs.Zeros.{sized, in_length}
 use Rattle.elimination_rules.specs.Upright.{least_unknown}
 use Rattle.elimination_rules.specs.Kept.{start_kept}
 use Rattle.elimination_rules.proofs.Count.{one_kept}
-use Rattle.elimination.specs.Requires.{Countable, smallest_size}
+use Rattle.elimination.specs.Requires.{ReadyLists, Countable, smallest_size}
 use Rattle.elimination.specs.Room.{SameRoom, Ready, Placed, Lined}
 use Rattle.elimination.specs.Views.{turn_of, outcome_of, verdict_of}
 use Rattle.std.specs.Result.{IsErrAnd, MatchResult}
@@ -45,7 +45,7 @@ use Rattle.elimination.specs.declared.refusal.Refusal.{Refusal}
 use Rattle.elimination.specs.Refusals.{number_of, place_of}
 use Rattle.elimination.specs.Heard.{answer_of}
 use Rattle.elimination.specs.declared.room.Elimination.{Elimination}
-use Rattle.elimination.proofs.Rounds.{ReadyLists, ready_lists, Going, round_goes, round_counts}
+use Rattle.elimination.proofs.Rounds.{ready_lists, Going, round_goes, round_counts}
 
 -- "more than any exponent's size"
 pub fuel_enough : (u : ℕ) (e : List ℤ) → all_in_limit e ≡ true → smallest_size u e < fuel

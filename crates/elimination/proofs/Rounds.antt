@@ -2,7 +2,7 @@
 use mathlib.Core.Path.{◌≡◌, refl, sym, ap, ◌∙◌, subst}
 use mathlib.Core.Bool.{true}
 use mathlib.Core.List.{List}
-use Prim.Native.Nat.{ℕ, ◌+◌, ◌*◌, ◌≤◌, ◌<◌, ◌^◌}
+use Prim.Native.Nat.{ℕ, ◌+◌, ◌*◌, ◌<◌, ◌^◌}
 use native.Mathlib.Omega.{arith}
 use lib.IntN.{ℤ}
 use lib.ListN.{length}
@@ -13,18 +13,9 @@ use Rattle.elimination_rules.specs.Round.{Turn, holds, solved, again, clash, wid
 use Rattle.elimination_rules.proofs.Upright.{length_upright}
 use Rattle.elimination_rules.proofs.Ways.{turn_ind, round_ind}
 use Rattle.elimination_rules.proofs.Fall.{again_remains, again_tabled}
-use Rattle.elimination.specs.Requires.{Swappable, Picked, Countable, smallest_size}
+use Rattle.elimination.specs.Requires.{Swappable, ReadyLists, Picked, Countable, smallest_size}
 use Rattle.elimination.specs.Room.{Ready}
 use Rattle.elimination.specs.declared.room.Elimination.{Elimination}
-
--- A table, an equation of u unknown columns and room for its quotients, ready for a round: what `Ready` and the room's invariants say.
-pub record ReadyLists (u v : ℕ) (t e q : List ℤ) : Type 0 where
-  pub table : all_in_limit t ≡ true
-  pub equation : all_in_limit e ≡ true
-  pub columns : u ≤ length e
-  pub word : u ≤ 64
-  pub rows : length t ≡ v * length e
-  pub room : length q ≡ length e
 
 pub ready_lists : {s : Elimination} → Ready s → ReadyLists s.unknown_columns s.unknowns s.table.now s.equation.now s.quotients.now
 ready_lists {s} R = record { table = R.table; equation = R.equation; columns = s.columns; word = s.word; rows = s.rows; room = s.quotients_room }

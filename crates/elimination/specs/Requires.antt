@@ -1,5 +1,5 @@
 -- What the functions of the elimination ask of their callers.
-use Rattle.std.specs.Prelude.{◌≡◌, true, List, ℕ, ◌+◌, ◌*◌, ◌<◌, ◌^◌, length, take, ℤ, nat_abs}
+use Rattle.std.specs.Prelude.{◌≡◌, true, List, ℕ, ◌+◌, ◌*◌, ◌≤◌, ◌<◌, ◌^◌, length, take, ℤ, nat_abs}
 use Rattle.row.specs.Row.{at, all_in_limit}
 use Rattle.row.specs.Smallest.{smallest, size_of}
 
@@ -8,6 +8,15 @@ pub record Swappable (v j : ℕ) (t q : List ℤ) : Type 0 where
   pub table : all_in_limit t ≡ true
   pub rows : length t ≡ v * length q
   pub column : j < length q
+
+-- An equation of u unknown columns, with the table and room for its quotients: what `Ready` and the room's invariants say.
+pub record ReadyLists (u v : ℕ) (t e q : List ℤ) : Type 0 where
+  pub table : all_in_limit t ≡ true
+  pub equation : all_in_limit e ≡ true
+  pub columns : u ≤ length e
+  pub word : u ≤ 64
+  pub rows : length t ≡ v * length e
+  pub room : length q ≡ length e
 
 -- Column j is an unknown's, and not 0.
 pub record Picked (u j : ℕ) (e : List ℤ) : Type 0 where

@@ -45,24 +45,41 @@ impl Elimination<'_> {
     }
 }
 
+/// The work with an own table and sums that are lent, and with the rest of the room. Never inlined: LLVM would see that these two are
+/// apart, and add up by twos, for which the machine has no product.
+#[inline(never)]
+fn work_in(
+    own: &mut [i32],
+    sums: &mut [i64],
+    v: usize,
+    es: &[i32],
+    count: usize,
+    table: &mut [i32],
+) -> Result<Progress, Stopped>
+    requires { (length own.old ≡ 32 * v) × (length sums.old ≡ 32) × (v ≤ 24) × (32 * v ≤ length table.old) × (length es.now ≡ count * 32) }
+    ensures { on_verdict table.old (rule_eliminate quotient fuel 24 v 32 count es.now) ≡ answer_of stopped_number stopped_place result table.new }
+{
+    let mut equation = [0i32; COLUMNS];
+    let mut quotients = [0i32; COLUMNS];
+    let mut elimination = Elimination {
+        table: own,
+        equation: &mut equation,
+        quotients: &mut quotients,
+        sums,
+        unknown_columns: UNKNOWN_COLUMNS,
+        unknowns: v,
+    };
+    elimination.work(es, count, table)
+}
+
 /// Owns the room: fixed memory, as firmware has it. The owner of a sheet's room is in crate `sheet`: this crate knows no sheets.
 fn owner(v: usize, es: &[i32], count: usize, table: &mut [i32]) -> Result<Progress, Stopped>
     requires { (v ≤ 24) × (32 * v ≤ length table.old) × (length es.now ≡ count * 32) }
     ensures { on_verdict table.old (rule_eliminate quotient fuel 24 v 32 count es.now) ≡ answer_of stopped_number stopped_place result table.new }
 {
     let mut own = [0i32; TABLE_LENGTH];
-    let mut equation = [0i32; COLUMNS];
-    let mut quotients = [0i32; COLUMNS];
     let mut sums = [0i64; COLUMNS];
-    let mut elimination = Elimination {
-        table: &mut own[..COLUMNS * v],
-        equation: &mut equation,
-        quotients: &mut quotients,
-        sums: &mut sums,
-        unknown_columns: UNKNOWN_COLUMNS,
-        unknowns: v,
-    };
-    elimination.work(es, count, table)
+    work_in(&mut own[..COLUMNS * v], &mut sums, v, es, count, table)
 }
 
 /// V, equations of 32 numbers end to end, and a lent table of at least 32V numbers.

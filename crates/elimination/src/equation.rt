@@ -6,32 +6,54 @@ ghost use Rattle.row.specs.Requires.{Replaceable};
 ghost use Rattle.row.specs.Table.{start as start_table, replaced};
 ghost use Rattle.elimination_rules.specs.Equation.{solve as rule_solve, one as rule_one, eliminate as rule_eliminate};
 ghost use Rattle.elimination_rules.specs.Call.{fuel};
-ghost use Rattle.elimination.specs.Requires.{Countable, smallest_size};
+ghost use Rattle.elimination.specs.Requires.{ReadyLists, Countable, smallest_size};
 ghost use Rattle.elimination.specs.Room.{Ready, Placed, Lined, SameRoom};
 ghost use Rattle.elimination.specs.Views.{outcome_of, verdict_of};
 
 use crate::progress::{Progress, Stop, Stopped};
 use crate::room::Elimination;
-use crate::round::Turned;
+use crate::round::{Turned, round};
 use whole::number::PastLimit;
+
+/// The rounds of the equation, "and repeat with what remains": the smallest unknown's size falls at each call.
+pub fn solve(
+    table: &mut [i32],
+    e: &mut [i32],
+    q: &mut [i32],
+    u: usize,
+    v: usize,
+    done: Progress,
+) -> Result<Progress, Stop>
+    requires { ReadyLists u v table.old e.old q.old × Countable u done.rounds e.old }
+    ensures { (n : ℕ) → smallest_size u e.old < n → rule_solve quotient n u v table.old e.old done.rounds done.free ≡ outcome_of result table.new }
+{
+    match round(table, e, q, u, v, done.free)? {
+        Turned::Holds => Ok(done),
+        Turned::Solved(free) => Ok(done.after_round(free)),
+        Turned::Again => solve(table, e, q, u, v, done.after_round(done.free)),
+    }
+}
 
 impl Elimination<'_> {
     // `Ready` as in round.rt.
-    /// The rounds of the equation, "and repeat with what remains": the smallest unknown's size falls at each call.
+    /// The rounds of the equation.
+    #[inline(always)]
     pub fn solve(&mut self, done: Progress) -> Result<Progress, Stop>
         requires { Ready self.old × Countable self.old.unknown_columns done.rounds self.old.equation.now }
         ensures solved { (n : ℕ) → smallest_size self.old.unknown_columns self.old.equation.now < n → rule_solve quotient n self.old.unknown_columns self.old.unknowns self.old.table.now self.old.equation.now done.rounds done.free ≡ outcome_of result self.new.table.now }
         ensures sums { self.new.sums.now ≡ self.old.sums.now }
         ensures room { SameRoom self.old self.new }
     {
-        match self.round(done.free)? {
-            Turned::Holds => Ok(done),
-            Turned::Solved(free) => Ok(done.after_round(free)),
-            Turned::Again => self.solve(done.after_round(done.free)),
-        }
+        let u = self.unknown_columns;
+        let v = self.unknowns;
+        let table = &mut *self.table;
+        let equation = &mut *self.equation;
+        let quotients = &mut *self.quotients;
+        solve(table, equation, quotients, u, v, done)
     }
 
     /// The table becomes each unknown equal to itself.
+    #[inline(always)]
     pub fn start(&mut self)
         requires { self.old.unknowns ≤ length self.old.equation.now }
         ensures begins { self.new.table.now ≡ start_table (length self.old.equation.now) self.old.unknowns }
@@ -43,6 +65,7 @@ impl Elimination<'_> {
     }
 
     /// The equation becomes e with each unknown replaced by its row, up to the first number past the limit.
+    #[inline(always)]
     pub fn replace(&mut self, e: &[i32]) -> Result<(), PastLimit>
         requires { Replaceable self.old.unknown_columns self.old.unknowns self.old.table.now e.now self.old.sums.now self.old.equation.now }
         ensures judged { judged (replaced self.old.unknown_columns self.old.unknowns self.old.table.now e.now) ≡ judged_of result self.new.equation.now }
@@ -60,6 +83,7 @@ impl Elimination<'_> {
     }
 
     /// One equation: judged, its unknowns replaced, judged again, and solved.
+    #[inline(always)]
     pub fn one(&mut self, e: &[i32], done: Progress) -> Result<Progress, Stop>
         requires { Placed self.old e.now done.rounds }
         ensures outcome { rule_one quotient fuel self.old.unknown_columns self.old.unknowns self.old.table.now e.now done.rounds done.free ≡ outcome_of result self.new.table.now }

@@ -1,19 +1,15 @@
 // One round.
-ghost use Rattle.std.specs.Prelude.{◌≡◌, true, ◌<◌, length, take, drop};
+ghost use Rattle.std.specs.Prelude.{◌≡◌, true, ◌<◌, length};
 ghost use Rattle.whole.specs.Division.{quotient};
-ghost use Rattle.row.specs.Row.{all_in_limit, all_zero};
-ghost use Rattle.row.specs.Smallest.{smallest as smallest_pick};
-ghost use Rattle.row.specs.Picked.{pick_of};
-ghost use Rattle.row.specs.Judged.{judged, judged_of};
-ghost use Rattle.elimination_rules.specs.Round.{upright as upright_row, swaps, turn as rule_turn, round as rule_round};
-ghost use Rattle.elimination.specs.Requires.{Picked as PickedColumn};
+ghost use Rattle.row.specs.Row.{all_in_limit};
+ghost use Rattle.elimination_rules.specs.Round.{upright as upright_row, turn as rule_turn, round as rule_round};
+ghost use Rattle.elimination.specs.Requires.{ReadyLists, Picked};
 ghost use Rattle.elimination.specs.Room.{Ready, SameRoom};
 ghost use Rattle.elimination.specs.Divided.{Divided};
 ghost use Rattle.elimination.specs.Views.{turn_of};
 
 use crate::progress::Stop;
 use crate::room::Elimination;
-use row::smallest::Picked;
 use whole::number::PastLimit;
 
 /// What a round comes to; a solved one has the free word.
@@ -34,73 +30,97 @@ pub fn upright(e: &mut [i32], j: usize)
     }
 }
 
+// The rounds are functions of slices, and the methods lend them the room. What calls itself is never inlined: if it took the room, LLVM
+// would keep the room in memory, and know none of its widths.
+/// e becomes the remainders by its number at j, made positive, which is returned, and q the quotients.
+pub fn divide_by(e: &mut [i32], q: &mut [i32], j: usize) -> i32
+    requires { (all_in_limit e.old ≡ true) × (length q.old ≡ length e.old) × Picked (length e.old) j e.old }
+    ensures { Divided (upright_row e.old j) j result e.new q.new }
+{
+    upright(e, j);
+    let p = e[j];
+    row::change::divide(e, q, p);
+    p
+}
+
+/// The round that picked j.
+pub fn turn(
+    table: &mut [i32],
+    e: &mut [i32],
+    q: &mut [i32],
+    u: usize,
+    v: usize,
+    free: u64,
+    j: usize,
+) -> Result<Turned, Stop>
+    requires { ReadyLists u v table.old e.old q.old × Picked u j e.old }
+    ensures { rule_turn quotient u v table.old (upright_row e.old j) free j ≡ turn_of result table.new e.new }
+{
+    let p = divide_by(e, q, j);
+    if row::test::all_zero(&e[..u]) {
+        if !row::test::all_zero(&e[u..]) {
+            return Err(Stop::Clash);
+        }
+        // Not by `?`: that the last round is judged too shows where this one value is edited.
+        if let Err(PastLimit) = crate::table::swap_rows(table, q, j, v) {
+            return Err(Stop::Wide);
+        }
+        return Ok(Turned::Solved(whole::word::without(free, j)));
+    }
+    e[j] = p;
+    q[j] = 0;
+    crate::table::swap_rows(table, q, j, v)?;
+    Ok(Turned::Again)
+}
+
+/// One round of an equation over the first u columns' unknowns.
+pub fn round(
+    table: &mut [i32],
+    e: &mut [i32],
+    q: &mut [i32],
+    u: usize,
+    v: usize,
+    free: u64,
+) -> Result<Turned, Stop>
+    requires { ReadyLists u v table.old e.old q.old }
+    ensures { rule_round quotient u v table.old e.old free ≡ turn_of result table.new e.new }
+{
+    match row::smallest::smallest(&e[..u]) {
+        Some(picked) => turn(table, e, q, u, v, free, picked.column),
+        None if row::test::all_zero(&e[u..]) => Ok(Turned::Holds),
+        None => Err(Stop::Clash),
+    }
+}
+
 // `Ready` is asked for, and is no invariant of the room: an equation is judged after it was replaced.
 impl Elimination<'_> {
-    fn smallest(&self) -> Option<Picked>
-        ensures { pick_of result ≡ smallest_pick (take self.now.unknown_columns self.now.equation.now) }
-    {
-        row::smallest::smallest(&self.equation[..self.unknown_columns])
-    }
-
-    /// Whether each unknown of the equation is 0.
-    fn unknowns_are_zero(&self) -> bool
-        ensures { result ≡ all_zero (take self.now.unknown_columns self.now.equation.now) }
-    {
-        row::test::all_zero(&self.equation[..self.unknown_columns])
-    }
-
-    /// Whether each base of the equation is 0.
-    fn bases_are_zero(&self) -> bool
-        ensures { result ≡ all_zero (drop self.now.unknown_columns self.now.equation.now) }
-    {
-        row::test::all_zero(&self.equation[self.unknown_columns..])
-    }
-
     /// The equation, with its number at j made positive, is divided by that number, which is returned: `equation` becomes the
     /// remainders, and `quotients` the quotients.
     pub fn divide_by(&mut self, j: usize) -> i32
-        requires { (all_in_limit self.old.equation.now ≡ true) × PickedColumn (length self.old.equation.now) j self.old.equation.now }
+        requires { (all_in_limit self.old.equation.now ≡ true) × Picked (length self.old.equation.now) j self.old.equation.now }
         ensures divided { Divided (upright_row self.old.equation.now j) j result self.new.equation.now self.new.quotients.now }
         ensures table { self.new.table.now ≡ self.old.table.now }
         ensures sums { self.new.sums.now ≡ self.old.sums.now }
         ensures room { SameRoom self.old self.new }
     {
-        upright(self.equation, j);
-        let p = self.equation[j];
-        row::change::divide(self.equation, self.quotients, p);
-        p
-    }
-
-    /// Every row with unknown j replaced by the quotients, up to the first past the limit.
-    fn swap_rows(&mut self, j: usize) -> Result<(), PastLimit>
-        requires { (all_in_limit self.old.table.now ≡ true) × (j < length self.old.quotients.now) }
-        ensures judged { judged (swaps self.old.unknowns j self.old.quotients.now self.old.table.now) ≡ judged_of result self.new.table.now }
-        ensures equation { self.new.equation.now ≡ self.old.equation.now }
-        ensures sums { self.new.sums.now ≡ self.old.sums.now }
-        ensures room { SameRoom self.old self.new }
-    {
-        crate::table::swap_rows(self.table, self.quotients, j, self.unknowns)
+        let equation = &mut *self.equation;
+        let quotients = &mut *self.quotients;
+        divide_by(equation, quotients, j)
     }
 
     /// The round that picked j.
     pub fn turn(&mut self, free: u64, j: usize) -> Result<Turned, Stop>
-        requires { Ready self.old × PickedColumn self.old.unknown_columns j self.old.equation.now }
+        requires { Ready self.old × Picked self.old.unknown_columns j self.old.equation.now }
         ensures turned { rule_turn quotient self.old.unknown_columns self.old.unknowns self.old.table.now (upright_row self.old.equation.now j) free j ≡ turn_of result self.new.table.now self.new.equation.now }
         ensures sums { self.new.sums.now ≡ self.old.sums.now }
         ensures room { SameRoom self.old self.new }
     {
-        let p = self.divide_by(j);
-        if self.unknowns_are_zero() {
-            if !self.bases_are_zero() {
-                return Err(Stop::Clash);
-            }
-            self.swap_rows(j)?;
-            return Ok(Turned::Solved(whole::word::without(free, j)));
-        }
-        self.equation[j] = p;
-        self.quotients[j] = 0;
-        self.swap_rows(j)?;
-        Ok(Turned::Again)
+        let u = self.unknown_columns;
+        let v = self.unknowns;
+        let table = &mut *self.table;
+        let equation = &mut *self.equation;
+        let quotients = &mut *self.quotients;
+        turn(table, equation, quotients, u, v, free, j)
     }
 
     /// One round.
@@ -110,10 +130,11 @@ impl Elimination<'_> {
         ensures sums { self.new.sums.now ≡ self.old.sums.now }
         ensures room { SameRoom self.old self.new }
     {
-        match self.smallest() {
-            Some(picked) => self.turn(free, picked.column),
-            None if self.bases_are_zero() => Ok(Turned::Holds),
-            None => Err(Stop::Clash),
-        }
+        let u = self.unknown_columns;
+        let v = self.unknowns;
+        let table = &mut *self.table;
+        let equation = &mut *self.equation;
+        let quotients = &mut *self.quotients;
+        round(table, equation, quotients, u, v, free)
     }
 }

@@ -33,7 +33,9 @@ pub fn add_rows(sums: &mut [i64], table: &[i32], numbers: &[i32])
     }
 }
 
-/// The columns of e from u on, with 0 in those before.
+/// The columns of e from u on, with 0 in those before. Never inlined: of sums that it saw begin here LLVM would carry a part from row to
+/// row in registers, which are too few.
+#[inline(never)]
 pub fn constants(sums: &mut [i64], e: &[i32], u: usize)
     requires { (u ≤ length e.now) × (length sums.old ≡ length e.now) }
     ensures { sums.new ≡ row_constants u e.now }

@@ -1,8 +1,8 @@
--- `elimination::round::Elimination::round` meets its contract.
+-- `elimination::round::round` meets its contract.
 use Rattle.std.proofs.Common.{sym, ap, ◌∙◌}
 use Rattle.row.specs.Picked.{pick_of}
 use Rattle.elimination.proofs.Turns.{is_picked}
-use Rattle.elimination.proofs.room.Elimination.round.Goals as goal
+use Rattle.elimination.proofs.round.round.Goals as goal
 
 pub turn-requires : goal.turn-requires
 turn-requires c = (c.requires, is_picked _ _ _ _ (sym c.smallest.ensures ∙ ap pick_of c.in-Some.is))
