@@ -64,6 +64,23 @@ impl Elimination<'_> {
         crate::table::start(self.table, w, v);
     }
 
+    /// The equation becomes e with each unknown of its first u columns replaced by its row, up to the first number past the limit.
+    #[inline(always)]
+    fn replace_first(&mut self, e: &[i32], u: usize) -> Result<(), PastLimit>
+        requires { Replaceable u self.old.unknowns self.old.table.now e.now self.old.sums.now self.old.equation.now }
+        ensures judged { judged (replaced u self.old.unknowns self.old.table.now e.now) ≡ judged_of result self.new.equation.now }
+        ensures table { self.new.table.now ≡ self.old.table.now }
+        ensures quotients { self.new.quotients.now ≡ self.old.quotients.now }
+        ensures room { SameRoom self.old self.new }
+    {
+        let v = self.unknowns;
+        // Named first: of a field lent as `&[T]` a proof keeps only the length.
+        let sums = &mut *self.sums;
+        let table = &mut *self.table;
+        let equation = &mut *self.equation;
+        row::add::replace(sums, table, e, equation, u, v)
+    }
+
     /// The equation becomes e with each unknown replaced by its row, up to the first number past the limit.
     #[inline(always)]
     pub fn replace(&mut self, e: &[i32]) -> Result<(), PastLimit>
@@ -74,12 +91,7 @@ impl Elimination<'_> {
         ensures room { SameRoom self.old self.new }
     {
         let u = self.unknown_columns;
-        let v = self.unknowns;
-        // Named first: of a field lent as `&[T]` a proof keeps only the length.
-        let sums = &mut *self.sums;
-        let table = &mut *self.table;
-        let equation = &mut *self.equation;
-        row::add::replace(sums, table, e, equation, u, v)
+        self.replace_first(e, u)
     }
 
     /// One equation: judged, its unknowns replaced, judged again, and solved.
@@ -92,7 +104,8 @@ impl Elimination<'_> {
         if !row::test::all_in_limit(e) {
             return Err(Stop::Wide);
         }
-        self.replace(e)?;
+        let u = self.unknown_columns;
+        self.replace_first(e, u)?;
         self.solve(done)
     }
 

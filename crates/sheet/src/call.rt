@@ -1,5 +1,5 @@
 // The calls on a sheet. None of them asks anything of its caller: bad input is refused.
-ghost use Rattle.std.specs.Prelude.{◌≡◌, true, ◌≤◌, length};
+ghost use Rattle.std.specs.Prelude.{◌≡◌, true, ◌*◌, ◌≤◌, length};
 ghost use Rattle.elimination.specs.Heard.{answer_of};
 ghost use Rattle.sheet_rules.specs.Work.{solved};
 ghost use Rattle.sheet_rules.specs.Calls.{check as rule_check, ask_line, ask_channel, lines_part};
@@ -16,17 +16,23 @@ use crate::units::Units;
 use elimination::progress::Progress;
 use elimination::room::Elimination;
 
-// Owns the room: fixed memory, as firmware has it (a row is 32 numbers; there are 256 lines and 24 unknowns). The elimination's own
-// owner stays beside it, since that crate knows no sheets.
-fn owner(sheet: &Sheet, question: Question, table: &mut [i32]) -> Result<Progress, Refusal>
-    requires { Askable (shape_in sheet.now) question table.old }
+// The work with a table and sums that are lent, and with the rest of the room: a row is 32 numbers, and there are 256 lines. Never
+// inlined, for the reason of `elimination::call::work_in`.
+#[inline(never)]
+fn work_in(
+    rows: &mut [i32],
+    sums: &mut [i64],
+    sheet: &Sheet,
+    question: Question,
+    table: &mut [i32],
+) -> Result<Progress, Refusal>
+    requires room { (length rows.old ≡ sheet.now.parts.shape.unknowns * sheet.now.parts.shape.columns) × (length sums.old ≡ sheet.now.parts.shape.columns) }
+    requires asked { Askable (shape_in sheet.now) question table.old }
     ensures { answer_on (shape_in sheet.now) (bytes_in sheet.now) question table.old (solved (shape_in sheet.now) (bytes_in sheet.now)) ≡ answer_of number_of place_of result table.new }
 {
     let mut store = [0i32; 8192];
-    let mut rows = [0i32; 768];
     let mut equation = [0i32; 32];
     let mut quotients = [0i32; 32];
-    let mut sums = [0i64; 32];
     let mut row = [0i32; 32];
     let mut other = [0i32; 32];
     let sheet = *sheet;
@@ -37,15 +43,33 @@ fn owner(sheet: &Sheet, question: Question, table: &mut [i32]) -> Result<Progres
         done: 0,
     };
     let elimination = Elimination {
-        table: &mut rows[..shape.unknowns * shape.columns],
+        table: rows,
         equation: &mut equation,
         quotients: &mut quotients,
-        sums: &mut sums,
+        sums,
         unknown_columns: shape.unknown_columns,
         unknowns: shape.unknowns,
     };
     let mut work = Work::new(units, elimination, &mut row, &mut other);
     work.answer(question, table)
+}
+
+// Owns the room: fixed memory, as firmware has it (there are 24 unknowns). The elimination's own owner stays beside it, since that
+// crate knows no sheets.
+fn owner(sheet: &Sheet, question: Question, table: &mut [i32]) -> Result<Progress, Refusal>
+    requires { Askable (shape_in sheet.now) question table.old }
+    ensures { answer_on (shape_in sheet.now) (bytes_in sheet.now) question table.old (solved (shape_in sheet.now) (bytes_in sheet.now)) ≡ answer_of number_of place_of result table.new }
+{
+    let mut rows = [0i32; 768];
+    let mut sums = [0i64; 32];
+    let shape = sheet.parts.shape;
+    work_in(
+        &mut rows[..shape.unknowns * shape.columns],
+        &mut sums,
+        sheet,
+        question,
+        table,
+    )
 }
 
 // The answer to a question, in the lent table.
