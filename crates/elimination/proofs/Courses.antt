@@ -45,7 +45,7 @@ use Rattle.elimination.specs.declared.refusal.Refusal.{Refusal}
 use Rattle.elimination.specs.Refusals.{number_of, place_of}
 use Rattle.elimination.specs.Heard.{answer_of}
 use Rattle.elimination.specs.declared.room.Elimination.{Elimination}
-use Rattle.elimination.proofs.Rounds.{ready_lists, Going, round_goes, round_counts}
+use Rattle.elimination.proofs.Rounds.{ready_lists, GoingOn, round_goes, round_counts}
 
 -- "more than any exponent's size"
 pub fuel_enough : (u : ℕ) (e : List ℤ) → all_in_limit e ≡ true → smallest_size u e < fuel
@@ -74,6 +74,18 @@ solve_stops u v t e k f t' e' Why.TheVariants.Clash h (Err Why.TheVariants.Wide)
 solve_stops u v t e k f t' e' Why.TheVariants.Wide h (Err Why.TheVariants.Clash) x = cc
 solve_stops u v t e k f t' e' s h (Ok p) x = absurd x
 
+-- A round that goes on leaves an equation as it was, but smaller.
+pub record Going (u v : ℕ) (t e : List ℤ) (k f : ℕ) (t' e' : List ℤ) : Type 0 where
+  pub turn : round quotient u v t e f ≡ again t' e'
+  pub smaller : smallest_size u e' < smallest_size u e
+  pub counts : k + 1 < 2 ^ 32
+  pub countable : Countable u (k + 1) e'
+  pub table : all_in_limit t' ≡ true
+  pub equation : all_in_limit e' ≡ true
+
+pub goes : {u v : ℕ} {t e : List ℤ} {k f : ℕ} {t' e' : List ℤ} → GoingOn u v t e k f t' e' → Going u v t e k f t' e'
+goes g = record { turn = g.turn; smaller = g.smaller; counts = g.counts; countable = g.countable; table = g.table; equation = g.equation }
+
 pub solve_goes : {u v : ℕ} {t e : List ℤ} {k f : ℕ} {t' e' : List ℤ} (o : Outcome) → Going u v t e k f t' e'
     → ((n : ℕ) → smallest_size u e' < n → solve quotient n u v t' e' (k + 1) f ≡ o) → (n : ℕ) → smallest_size u e < n → solve quotient n u v t e k f ≡ o
 unfolding solve
@@ -82,8 +94,11 @@ solve_goes o g h (suc n) l = rw g.turn (h n (omega arith))
 
 -- What the rounds of an elimination leave.
 module _ {s : Elimination} (R : Ready s) (k f : ℕ) (c : Countable s.unknown_columns k s.equation.now) where
+  pub going_on : {t' e' : List ℤ} → round quotient s.unknown_columns s.unknowns s.table.now s.equation.now f ≡ again t' e' → GoingOn s.unknown_columns s.unknowns s.table.now s.equation.now k f t' e'
+  going_on = round_goes (ready_lists R) k f c
+
   pub going : {t' e' : List ℤ} → round quotient s.unknown_columns s.unknowns s.table.now s.equation.now f ≡ again t' e' → Going s.unknown_columns s.unknowns s.table.now s.equation.now k f t' e'
-  going = round_goes (ready_lists R) k f c
+  going r = goes (going_on r)
 
   pub solved_counts : {t' : List ℤ} {f' : ℕ} → round quotient s.unknown_columns s.unknowns s.table.now s.equation.now f ≡ solved t' f' → k + 1 < 2 ^ 32
   solved_counts = round_counts (ready_lists R) k f c

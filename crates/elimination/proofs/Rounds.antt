@@ -24,8 +24,8 @@ ready_lists {s} R = record { table = R.table; equation = R.equation; columns = s
 pub ready_swappable : {u v j : ℕ} {t e q : List ℤ} (q' : List ℤ) → ReadyLists u v t e q → Picked u j e → length q' ≡ length q → Swappable v j t q'
 ready_swappable {u} {v} q' R P k = record { table = R.table; rows = R.rows ∙ ap (λ n. v * n) (sym (k ∙ R.room)); column = omega arith }
 
--- A round that goes on leaves an equation as it was, but smaller.
-pub record Going (u v : ℕ) (t e : List ℤ) (k f : ℕ) (t' e' : List ℤ) : Type 0 where
+-- A round that goes on leaves an equation as it was, but smaller, and lists that are ready for the next one.
+pub record GoingOn (u v : ℕ) (t e : List ℤ) (k f : ℕ) (t' e' : List ℤ) : Type 0 where
   pub turn : round quotient u v t e f ≡ again t' e'
   pub smaller : smallest_size u e' < smallest_size u e
   pub counts : k + 1 < 2 ^ 32
@@ -35,7 +35,7 @@ pub record Going (u v : ℕ) (t e : List ℤ) (k f : ℕ) (t' e' : List ℤ) : T
   pub ready : (q : List ℤ) → length q ≡ length e → ReadyLists u v t' e' q
 
 module _ {u v : ℕ} {t e q : List ℤ} (R : ReadyLists u v t e q) (k f : ℕ) (c : Countable u k e) where
-  pub round_goes : {t' e' : List ℤ} → round quotient u v t e f ≡ again t' e' → Going u v t e k f t' e'
+  pub round_goes : {t' e' : List ℤ} → round quotient u v t e f ≡ again t' e' → GoingOn u v t e k f t' e'
   round_goes {t'} {e'} r =
       let m = again_remains rounded_down u v t e f r in
       let h = again_tabled quotient u v (length e) t e f refl R.rows r in

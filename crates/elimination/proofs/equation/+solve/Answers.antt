@@ -2,7 +2,7 @@
 use Rattle.std.proofs.Common.{refl, ◌∙◌, arith}
 use Rattle.elimination_rules.specs.Round.{holds, solved}
 use Rattle.elimination.proofs.Rounds.{round_goes, round_counts}
-use Rattle.elimination.proofs.Courses.{solve_ends, solve_stops, solve_goes}
+use Rattle.elimination.proofs.Courses.{solve_ends, solve_stops, goes, solve_goes}
 use Rattle.elimination.proofs.equation.+solve.Goals as goal
 
 pub returns-in_err-round : goal.returns-in_err-round
@@ -29,7 +29,7 @@ solve-requires t c =
 pub returns-in-Again : goal.returns-in-Again
 returns-in-Again t c =
     let g = round_goes c.requires.0 _ _ c.requires.1 (rw (c.in_ok-round.was, c.in-Again.is) at c.round.ensures) in
-    solve_goes _ g (rw (c.after_round-in-Again.ensures.0, c.after_round-in-Again.ensures.1) at c.solve.ensures)
+    solve_goes _ (goes g) (rw (c.after_round-in-Again.ensures.0, c.after_round-in-Again.ensures.1) at c.solve.ensures)
 
 pub returns-in-Holds : goal.returns-in-Holds
 returns-in-Holds t c =
